@@ -1,0 +1,2 @@
+pub mod EightDigits
+pub mod CodeOrder

@@ -1,0 +1,36 @@
+// The kinds of item on a ferry terminal's berth panel, stays and sailings, with queries for them and a rule.
+mod code_text;
+mod ended_by;
+mod sailing;
+mod stay;
+mod stay_at;
+
+pub use code_text::CodeText;
+pub use code_text::CodeTextComparable;
+pub use code_text::CodeTextDebug;
+pub use code_text::CodeTextEq;
+pub use code_text::CodeTextPartialEq;
+pub use code_text::CodeTextRefusal;
+pub use code_text::CodeTextRefusalDebug;
+pub use code_text::CodeTextRefusalEq;
+pub use code_text::CodeTextRefusalPartialEq;
+pub use ended_by::EndedBy;
+pub use ended_by::EndedByDebug;
+pub use ended_by::EndedByEq;
+pub use ended_by::EndedByPartialEq;
+pub use ended_by::EndedByRule;
+pub use sailing::Sailing;
+pub use sailing::SailingDebug;
+pub use sailing::SailingEq;
+pub use sailing::SailingItem;
+pub use sailing::SailingPartialEq;
+pub use stay::Stay;
+pub use stay::StayDebug;
+pub use stay::StayEq;
+pub use stay::StayItem;
+pub use stay::StayPartialEq;
+pub use stay_at::StayAt;
+pub use stay_at::StayAtComparable;
+pub use stay_at::StayAtDebug;
+pub use stay_at::StayAtEq;
+pub use stay_at::StayAtPartialEq;

@@ -1,0 +1,4 @@
+pub mod Buoy
+pub mod BuoyAt
+pub mod KeepZone
+pub mod EveryKind
