@@ -18,14 +18,6 @@ const CHAIN_LONG: u8 = 14;
 
 const CHAIN_SHORT: u8 = 15;
 
-/// A store, and the number and the place of its first fault.
-#[derive(Clone, Copy)]
-struct Case {
-    store: Store,
-    number: u8,
-    place: u32,
-}
-
 fn finds(numbers: ItemSet, slots: &[ItemSlot<u32>], number: u8, place: u32) -> Result<(), Fail> {
     match numbers.validate(slots) {
         Ok(()) => Err(Fail::new("no fault was found")),
@@ -36,51 +28,32 @@ fn finds(numbers: ItemSet, slots: &[ItemSlot<u32>], number: u8, place: u32) -> R
     }
 }
 
-fn finds_in_each(cases: &[Case]) -> Result<(), Fail> {
+/// Each store has the fault, at the place that stands beside it.
+fn finds_in_each(number: u8, cases: &[(Store, u32)]) -> Result<(), Fail> {
     for case in cases {
-        let store = case.store;
-        finds(store.numbers, &store.slots, case.number, case.place)?;
+        let (store, place) = *case;
+        finds(store.numbers, &store.slots, number, place)?;
     }
     Ok(())
 }
 
 #[test]
 fn a_count_that_is_not_len() -> Result<(), Fail> {
+    let full = [held(10), held(20), held(30), held(40)];
     finds_in_each(
+        COUNT,
         &[
-            Case {
-                store: Store::new(3, 3, 2, [held(10), held(20), vacant(S), vacant(S)]),
-                number: COUNT,
-                place: 2,
-            },
-            Case {
-                store: Store::new(4, 1, S, [held(10), held(20), held(30), vacant(S)]),
-                number: COUNT,
-                place: 3,
-            },
-            Case {
-                store: Store::new(2, 1, 0, [vacant(1), vacant(S), vacant(S), vacant(S)]),
-                number: COUNT,
-                place: 0,
-            },
-            // an item past `used` is not counted
-            Case {
-                store: Store::new(1, 2, S, [held(10), held(20), held(30), held(40)]),
-                number: COUNT,
-                place: 1,
-            },
+            (Store::new(3, 3, 2, [held(10), held(20), vacant(S), vacant(S)]), 2),
+            (Store::new(4, 1, S, [held(10), held(20), held(30), vacant(S)]), 3),
+            (Store::new(2, 1, 0, [vacant(1), vacant(S), vacant(S), vacant(S)]), 0),
+            // items past `used` are not counted
+            (Store::new(1, 2, S, full), 1),
+            (Store::new(3, 4, S, full), 3),
             // the count is tested before the chain
-            Case {
-                store: Store::new(3, 1, 7, [held(10), held(20), vacant(S), vacant(S)]),
-                number: COUNT,
-                place: 2,
-            },
-            // all slots are counted where more are in use than there are
-            Case {
-                store: Store::new(9, 9, S, [held(10), held(20), held(30), held(40)]),
-                number: COUNT,
-                place: 4,
-            },
+            (Store::new(3, 1, 7, [held(10), held(20), vacant(S), vacant(S)]), 2),
+            // where more slots are in use than there are, all of them are
+            (Store::new(9, 9, S, full), 4),
+            (Store::new(4, S, S, full), 4),
         ],
     )
 }
@@ -88,34 +61,17 @@ fn a_count_that_is_not_len() -> Result<(), Fail> {
 #[test]
 fn a_chain_that_reaches_no_slot_in_use() -> Result<(), Fail> {
     finds_in_each(
+        CHAIN_RANGE,
         &[
-            Case {
-                store: Store::new(2, 1, 7, [held(10), vacant(S), vacant(S), vacant(S)]),
-                number: CHAIN_RANGE,
-                place: 7,
-            },
-            Case {
-                store: Store::new(4, 2, 1, [held(10), vacant(3), held(30), vacant(4294967294)]),
-                number: CHAIN_RANGE,
-                place: 4294967294,
-            },
+            (Store::new(2, 1, 7, [held(10), vacant(S), vacant(S), vacant(S)]), 7),
+            (Store::new(4, 2, 1, [held(10), vacant(3), held(30), vacant(5)]), 5),
+            (Store::new(4, 3, 4294967294, [vacant(S), held(20), held(30), held(40)]), 4294967294),
             // slot 2 is vacant, but not in use
-            Case {
-                store: Store::new(2, 1, 1, [held(10), vacant(2), vacant(S), vacant(S)]),
-                number: CHAIN_RANGE,
-                place: 2,
-            },
+            (Store::new(2, 1, 1, [held(10), vacant(2), vacant(S), vacant(S)]), 2),
             // no slot is vacant
-            Case {
-                store: Store::new(4, 4, 4, [held(10), held(20), held(30), held(40)]),
-                number: CHAIN_RANGE,
-                place: 4,
-            },
-            Case {
-                store: Store::new(9, 3, 5, [held(10), held(20), held(30), vacant(S)]),
-                number: CHAIN_RANGE,
-                place: 5,
-            },
+            (Store::new(4, 4, 4, [held(10), held(20), held(30), held(40)]), 4),
+            // more slots are in use than there are
+            (Store::new(9, 3, 5, [held(10), held(20), held(30), vacant(S)]), 5),
         ],
     )
 }
@@ -123,93 +79,54 @@ fn a_chain_that_reaches_no_slot_in_use() -> Result<(), Fail> {
 #[test]
 fn a_chain_that_reaches_an_item() -> Result<(), Fail> {
     finds_in_each(
+        CHAIN_OCCUPIED,
         &[
-            Case {
-                store: Store::new(3, 1, 2, [vacant(1), vacant(S), held(30), vacant(S)]),
-                number: CHAIN_OCCUPIED,
-                place: 2,
-            },
-            Case {
-                store: Store::new(4, 2, 0, [vacant(2), held(20), vacant(3), held(40)]),
-                number: CHAIN_OCCUPIED,
-                place: 3,
-            },
+            (Store::new(3, 1, 2, [vacant(1), vacant(S), held(30), vacant(S)]), 2),
+            (Store::new(4, 2, 0, [vacant(2), held(20), vacant(3), held(40)]), 3),
             // no slot is vacant
-            Case {
-                store: Store::new(4, 4, 1, [held(10), held(20), held(30), held(40)]),
-                number: CHAIN_OCCUPIED,
-                place: 1,
-            },
+            (Store::new(4, 4, 1, [held(10), held(20), held(30), held(40)]), 1),
         ],
     )
 }
 
 #[test]
-fn a_chain_that_meets_too_many_or_too_few_slots() -> Result<(), Fail> {
+fn a_chain_that_meets_a_slot_too_many() -> Result<(), Fail> {
     finds_in_each(
+        CHAIN_LONG,
         &[
             // 1, 3, then 3 again
-            Case {
-                store: Store::new(4, 2, 1, [held(10), vacant(3), held(30), vacant(3)]),
-                number: CHAIN_LONG,
-                place: 3,
-            },
+            (Store::new(4, 2, 1, [held(10), vacant(3), held(30), vacant(3)]), 3),
             // 2, 0, then 2 again
-            Case {
-                store: Store::new(3, 1, 2, [vacant(2), held(20), vacant(0), vacant(S)]),
-                number: CHAIN_LONG,
-                place: 2,
-            },
-            // a circle through slot 1 alone, while slots 0 and 2 are vacant too
-            Case {
-                store: Store::new(3, 0, 1, [vacant(S), vacant(1), vacant(S), vacant(S)]),
-                number: CHAIN_LONG,
-                place: 1,
-            },
-            Case {
-                store: Store::new(4, 2, 0, [vacant(S), held(20), vacant(S), held(40)]),
-                number: CHAIN_SHORT,
-                place: 1,
-            },
-            Case {
-                store: Store::new(4, 0, 3, [vacant(S), vacant(0), vacant(1), vacant(1)]),
-                number: CHAIN_SHORT,
-                place: 3,
-            },
-            Case {
-                store: Store::new(4, 3, S, [held(10), held(20), vacant(S), held(40)]),
-                number: CHAIN_SHORT,
-                place: 0,
-            },
+            (Store::new(3, 1, 2, [vacant(2), held(20), vacant(0), vacant(S)]), 2),
+            // 1, four times: three slots are vacant
+            (Store::new(3, 0, 1, [vacant(S), vacant(1), vacant(S), vacant(S)]), 1),
+        ],
+    )
+}
+
+#[test]
+fn a_chain_that_misses_a_vacant_slot() -> Result<(), Fail> {
+    finds_in_each(
+        CHAIN_SHORT,
+        &[
+            (Store::new(4, 3, S, [held(10), held(20), vacant(S), held(40)]), 0),
+            (Store::new(4, 2, 0, [vacant(S), held(20), vacant(S), held(40)]), 1),
+            (Store::new(4, 0, 3, [vacant(S), vacant(0), vacant(1), vacant(1)]), 3),
         ],
     )
 }
 
 #[test]
 fn stores_of_every_size() -> Result<(), Fail> {
-    finds(numbers(1, 0, S), &[held(10)], COUNT, 1)?;
     finds(numbers(1, 1, S), &[], COUNT, 0)?;
+    finds(numbers(1, 0, S), &[held(10)], COUNT, 1)?;
     finds(numbers(0, 0, 0), &[], CHAIN_RANGE, 0)?;
     finds(numbers(1, 0, 0), &[vacant(5)], CHAIN_RANGE, 5)?;
     finds(numbers(1, 1, 0), &[held(10)], CHAIN_OCCUPIED, 0)?;
-    finds(
-        numbers(4, 2, 1),
-        &[vacant(S), vacant(3), held(10), held(20)],
-        CHAIN_OCCUPIED,
-        3,
-    )?;
     finds(numbers(1, 0, 0), &[vacant(0)], CHAIN_LONG, 0)?;
-    finds(
-        numbers(5, 3, 1),
-        &[held(10), vacant(4), held(20), held(30), vacant(4)],
-        CHAIN_LONG,
-        4,
-    )?;
+    let circle = [held(10), vacant(4), held(20), held(30), vacant(4)];
+    finds(numbers(5, 3, 1), &circle, CHAIN_LONG, 4)?;
     finds(numbers(1, 0, S), &[vacant(S)], CHAIN_SHORT, 0)?;
-    finds(
-        numbers(3, 0, 1),
-        &[vacant(S), vacant(0), vacant(S)],
-        CHAIN_SHORT,
-        2,
-    )
+    let apart = [vacant(S), vacant(0), vacant(S)];
+    finds(numbers(3, 0, 1), &apart, CHAIN_SHORT, 2)
 }

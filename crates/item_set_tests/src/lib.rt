@@ -1,8 +1,14 @@
 // Tests of the slot store.
 #[cfg(test)]
+mod compacting;
+#[cfg(test)]
+mod every_pattern;
+#[cfg(test)]
 mod faults;
 #[cfg(test)]
 mod inserting;
+#[cfg(test)]
+mod long_run;
 #[cfg(test)]
 mod reading;
 #[cfg(test)]
