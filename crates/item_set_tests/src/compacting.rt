@@ -1,12 +1,22 @@
 // Tests of moving the items of a store together.
 use crate::store::S;
 use crate::store::Store;
+use crate::store::StoreDebug;
+use crate::store::StorePartialEq;
 use crate::store::held;
 use crate::store::scratch;
 use crate::store::vacant;
 use item_set::CompactRefusal;
+use item_set::CompactRefusalDebug;
+use item_set::CompactRefusalPartialEq;
 use item_set::IndexRemap;
+use item_set::IndexRemapDebug;
+use item_set::IndexRemapPartialEq;
 use item_set::ItemIndex;
+use item_set::ItemIndexDebug;
+use item_set::ItemIndexPartialEq;
+use item_set::ItemSetFaultDebug;
+use item_set::ItemSetFaultPartialEq;
 use item_set::ValidateCompact;
 use std::test::*;
 
@@ -27,7 +37,10 @@ fn compacts(case: Case) -> Result<(), Fail> {
     check_eq(store, case.after)?;
     check_eq(places, scratch(case.scratch))?;
     check_eq(store.numbers.validate(&store.slots), Ok(()))?;
-    check_eq(store.numbers.validate_compact(ValidateCompact::Compact), Ok(()))
+    check_eq(
+        store.numbers.validate_compact(ValidateCompact::Compact),
+        Ok(()),
+    )
 }
 
 /// A compaction over a scratch of so many places changes nothing.
@@ -39,7 +52,12 @@ fn changes_nothing(
     let mut store = before;
     let mut places = scratch([7, 7, 7, 7]);
     check(room <= 4)?;
-    check_eq(store.numbers.compact(&mut store.slots, &mut places[0..room]), answer)?;
+    check_eq(
+        store
+            .numbers
+            .compact(&mut store.slots, &mut places[0..room]),
+        answer,
+    )?;
     check_eq(store, before)?;
     check_eq(places, scratch([7, 7, 7, 7]))
 }
@@ -135,8 +153,14 @@ fn a_scratch_of_used_places_is_enough() -> Result<(), Fail> {
     let mut places = [ItemIndex::new(7), ItemIndex::new(7), ItemIndex::new(7)];
     let answer = store.numbers.compact(&mut store.slots, &mut places);
     check_eq(answer, Ok(IndexRemap::Permuted { used: 3 }))?;
-    check_eq(places, [ItemIndex::SENTINEL, ItemIndex::SENTINEL, ItemIndex::new(0)])?;
-    check_eq(store, Store::new(1, 1, S, [held(30), vacant(S), vacant(S), held(99)]))
+    check_eq(
+        places,
+        [ItemIndex::SENTINEL, ItemIndex::SENTINEL, ItemIndex::new(0)],
+    )?;
+    check_eq(
+        store,
+        Store::new(1, 1, S, [held(30), vacant(S), vacant(S), held(99)]),
+    )
 }
 
 #[test]
@@ -148,5 +172,8 @@ fn only_places_of_slots_are_written_where_more_are_in_use() -> Result<(), Fail> 
     check_eq(&places[0..4], &scratch([0, S, 1, S])[0..4])?;
     check_eq(places[4], ItemIndex::new(7))?;
     check_eq(places[5], ItemIndex::new(7))?;
-    check_eq(store, Store::new(2, 2, S, [held(10), held(30), vacant(S), vacant(S)]))
+    check_eq(
+        store,
+        Store::new(2, 2, S, [held(10), held(30), vacant(S), vacant(S)]),
+    )
 }

@@ -1,10 +1,21 @@
 // Tests of compaction over every pattern of occupied and vacant slots.
 use item_set::CompactRefusal;
+use item_set::CompactRefusalDebug;
 use item_set::IndexRemap;
 use item_set::ItemIndex;
+use item_set::ItemIndexDebug;
+use item_set::ItemIndexPartialEq;
 use item_set::ItemSet;
+use item_set::ItemSetFaultDebug;
+use item_set::ItemSetFaultPartialEq;
 use item_set::ItemSlot;
+use item_set::ItemSlotDebug;
+use item_set::ItemSlotPartialEq;
+use item_set::NoSlotDebug;
+use item_set::NoSlotPartialEq;
 use item_set::RemapRefusal;
+use item_set::RemapRefusalDebug;
+use item_set::RemapRefusalPartialEq;
 use item_set::ValidateCompact;
 use std::test::*;
 
@@ -100,7 +111,10 @@ fn every_pattern_of_six_slots_is_compacted() -> Result<(), Fail> {
         row.stand_in_order(remap, pattern)?;
         row.end_vacant()?;
         row.is_sound()?;
-        check_eq(row.numbers.validate_compact(ValidateCompact::Compact), Ok(()))?;
+        check_eq(
+            row.numbers.validate_compact(ValidateCompact::Compact),
+            Ok(()),
+        )?;
     }
     Ok(())
 }

@@ -1,5 +1,7 @@
 // Tests of the slot store.
 #[cfg(test)]
+mod churn;
+#[cfg(test)]
 mod compacting;
 #[cfg(test)]
 mod every_pattern;
@@ -7,8 +9,6 @@ mod every_pattern;
 mod faults;
 #[cfg(test)]
 mod inserting;
-#[cfg(test)]
-mod long_run;
 #[cfg(test)]
 mod reading;
 #[cfg(test)]
