@@ -20,14 +20,14 @@ use Rattle.item_set.specs.declared.slot.ItemSlot.{ItemSlot}
 use Rattle.item_set.specs.declared.slot.ItemSlot.the-variants.{Vacant}
 
 -- a part up to a place that may lie past the end
-take-min : {X : Type 0} (n : ℕ) (xs : List X) → take (min n (length xs)) xs ≡ take n xs
+pub take-min : {X : Type 0} (n : ℕ) (xs : List X) → take (min n (length xs)) xs ≡ take n xs
 take-min {X} n xs =
     ⊎-elim
     (λ h. let e : min n (length xs) ≡ n = omega arith in ap (λ (k : ℕ). take k xs) e)
     (λ h. take-all (min n (length xs)) xs (omega arith) ∙ sym (take-all n xs h))
     (cases-lt n (length xs))
 
-drop-min : {X : Type 0} (n : ℕ) (xs : List X) → drop (min n (length xs)) xs ≡ drop n xs
+pub drop-min : {X : Type 0} (n : ℕ) (xs : List X) → drop (min n (length xs)) xs ≡ drop n xs
 drop-min {X} n xs =
     ⊎-elim
     (λ h. let e : min n (length xs) ≡ n = omega arith in ap (λ (k : ℕ). drop k xs) e)

@@ -4,3 +4,5 @@ pub mod Following
 pub mod Packing
 pub mod Soundness
 pub mod Compacting
+pub mod Chains
+pub mod Keeping

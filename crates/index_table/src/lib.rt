@@ -1,0 +1,33 @@
+// The sorted table: slot numbers in the order of their items' keys.
+mod check;
+mod entry;
+mod fault;
+mod halving;
+mod shift;
+mod table;
+
+pub use check::ascends;
+pub use check::first_unordered;
+pub use check::validate;
+pub use entry::Index;
+pub use entry::IndexDebug;
+pub use entry::IndexEq;
+pub use entry::IndexPartialEq;
+pub use entry::IndexRefusal;
+pub use entry::IndexRefusalDebug;
+pub use entry::IndexRefusalEq;
+pub use entry::IndexRefusalPartialEq;
+pub use fault::TableFault;
+pub use fault::TableFaultDebug;
+pub use fault::TableFaultEq;
+pub use fault::TableFaultPartialEq;
+pub use halving::Probe;
+pub use halving::search;
+pub use shift::close_place;
+pub use shift::open_place;
+pub use shift::remap_indexes;
+pub use table::find_index;
+pub use table::find_place;
+pub use table::first;
+pub use table::index_at;
+pub use table::last;
