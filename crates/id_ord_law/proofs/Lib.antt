@@ -1,0 +1,12 @@
+pub mod Keys
+pub mod Sorting
+pub mod Places
+pub mod Naming
+pub mod Steps
+pub mod Adding
+pub mod Occupied
+pub mod Shrinking
+pub mod Retaining
+pub mod Agreeing
+pub mod Calls
+pub mod Runs
