@@ -49,7 +49,9 @@ fn check_promise(slots: &[ItemSlot<Stay>], entries: &[Index], query: StayAt) -> 
 fn check_each_query<const N: usize>(numbers: [u32; N]) -> Result<(), Fail> {
     let table = entries(numbers)?;
     for from in [5, 10, 15, 20, 25, 30, 35] {
-        check_promise(&slots(), &table, StayAt { berth: 4, from })?;
+        check_promise(&slots(), &table, StayAt { berth: 4, from }).note(format_args!(
+            "{from} in {numbers:?}"
+        ))?;
     }
     Ok(())
 }

@@ -21,24 +21,28 @@ fn slots() -> [ItemSlot<Stay>; 5] {
     ]
 }
 
+/// Whether the items ascend, and the first place whose item is not Greater than the one before.
+fn answers<const N: usize>(
+    numbers: [u32; N],
+    ascending: bool,
+    unordered: Option<usize>,
+) -> Result<(), Fail> {
+    let table = entries(numbers)?;
+    let answer = (ascends(&slots(), &table), first_unordered(&slots(), &table));
+    check_eq(answer, (ascending, unordered)).note(format_args!("{numbers:?}"))
+}
+
 fn ascend<const N: usize>(numbers: [u32; N]) -> Result<(), Fail> {
-    let table = entries(numbers)?;
-    check_eq(ascends(&slots(), &table), true)?;
-    check_eq(first_unordered(&slots(), &table), None)
+    answers(numbers, true, None)
 }
 
-/// The items do not ascend, and this is the first place whose item is not Greater than the one before.
 fn break_at<const N: usize>(numbers: [u32; N], place: usize) -> Result<(), Fail> {
-    let table = entries(numbers)?;
-    check_eq(ascends(&slots(), &table), false)?;
-    check_eq(first_unordered(&slots(), &table), Some(place))
+    answers(numbers, false, Some(place))
 }
 
-/// An entry names no item, and no item comes after one that is not Less.
+/// An entry names no item, and no item comes straight after one that is not Less.
 fn name_no_item<const N: usize>(numbers: [u32; N]) -> Result<(), Fail> {
-    let table = entries(numbers)?;
-    check_eq(ascends(&slots(), &table), false)?;
-    check_eq(first_unordered(&slots(), &table), None)
+    answers(numbers, false, None)
 }
 
 #[test]

@@ -41,11 +41,13 @@ fn finds<const N: usize>(
     number: u8,
     place: usize,
 ) -> Result<(), Fail> {
-    is_fault(validate(&slots(), &entries(numbers)?, len), number, place)
+    let answer = validate(&slots(), &entries(numbers)?, len);
+    is_fault(answer, number, place).note(format_args!("{numbers:?}"))
 }
 
 fn passes<const N: usize>(numbers: [u32; N]) -> Result<(), Fail> {
-    check_eq(validate(&slots(), &entries(numbers)?, N), Ok(()))
+    let answer = validate(&slots(), &entries(numbers)?, N);
+    check_eq(answer, Ok(())).note(format_args!("{numbers:?}"))
 }
 
 #[test]
