@@ -1,4 +1,7 @@
 // The refusals of the map's calls, each with its number and the values that it returns.
+
+#![tactic(auto)]
+
 mod adding;
 mod replacing;
 mod validation;

@@ -1,4 +1,7 @@
 // Items with an order by key, queries for a key, and rules that keep or remove items.
+
+#![tactic(auto)]
+
 mod item;
 mod keep_first;
 mod number;

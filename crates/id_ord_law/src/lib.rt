@@ -1,4 +1,7 @@
 // The laws of a map: what can be read of it, and what a run of its calls amounts to.
+
+#![tactic(auto)]
+
 ghost use Rattle.id_ord_law.specs.Law.{RunLaw};
 ghost use Rattle.id_ord_law.specs.Reading.{ReadLaw};
 

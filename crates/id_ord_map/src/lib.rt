@@ -1,4 +1,7 @@
 // The ordered map over lent memory, and its entries.
+
+#![tactic(auto)]
+
 mod adopt;
 mod entries;
 mod equality;

@@ -1,4 +1,7 @@
 // Tests of the map.
+
+#![tactic(auto)]
+
 #[cfg(test)]
 mod adding_refusals;
 #[cfg(test)]

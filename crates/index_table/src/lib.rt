@@ -1,4 +1,7 @@
 // The sorted table: slot numbers in the order of their items' keys.
+
+#![tactic(auto)]
+
 mod check;
 mod entry;
 mod fault;

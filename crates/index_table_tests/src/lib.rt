@@ -1,4 +1,7 @@
 // Tests of the sorted table.
+
+#![tactic(auto)]
+
 #[cfg(test)]
 mod closing;
 #[cfg(test)]

@@ -1,4 +1,7 @@
 // The slot store: items in numbered slots, and the chain of free slots that runs through them.
+
+#![tactic(auto)]
+
 mod compaction;
 mod fault;
 mod index;

@@ -1,4 +1,7 @@
 // Tests of the slot store.
+
+#![tactic(auto)]
+
 #[cfg(test)]
 mod churn;
 #[cfg(test)]

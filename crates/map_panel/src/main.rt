@@ -1,4 +1,7 @@
 // The berth panel: reads commands, carries them out on a board of stays and a board of sailings, and tells what was done.
+
+#![tactic(auto)]
+
 ghost use Rattle.id_ord_law.specs.Parts.{Sound};
 ghost use Rattle.id_ord_map.specs.View.{view};
 ghost use Rattle.panel_items.specs.Sailing.{by_code};

@@ -1,4 +1,7 @@
 // Programs over the map, whose own contracts rest on those of its calls.
+
+#![tactic(auto)]
+
 mod each_call;
 mod each_entry_call;
 mod entry_programs;

@@ -1,4 +1,7 @@
 // The berth panel: reads a day's changes, keeps the stays in slots and says what became of each change.
+
+#![tactic(auto)]
+
 mod berths;
 mod line;
 mod report;

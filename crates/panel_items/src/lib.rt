@@ -1,4 +1,7 @@
 // The kinds of item on a ferry terminal's berth panel, stays and sailings, with queries for them and a rule.
+
+#![tactic(auto)]
+
 mod code_text;
 mod ended_by;
 mod sailing;

@@ -1,4 +1,7 @@
 // Tests of the panel's items, queries and rules, and a further kind of item that is made here of the same parts.
+
+#![tactic(auto)]
+
 mod buoy;
 mod buoy_at;
 #[cfg(test)]

@@ -18,7 +18,7 @@ returns-in-Occupied g c =
     let slots = c.args.slots.now in let n = c.loop-slot.slot.0 in
     let goes = eqb-false n 4294967295 (sym c.loop-slot-test.ensures) in
     let inside : n < length slots = omega arith in
-    let here = read_at slots c.as-u32-at.result n c.index-slots-at.result c.as-u32-at.ensures c.if-at-slots.false c.index-slots-at.is in
+    let here = read_at slots c.as_u32-at.result n c.index-slots-at.result c.as_u32-at.ensures c.if-at-slots.false c.index-slots-at.is in
     ap unless (sym (follow_occupied slots c.loop-slot.met c.loop-slot.slot goes _ c.in-Occupied.field-0 inside (here ∙ c.in-Occupied.is)) ∙ c.loop-slot.invariant.1)
 
 pub loop-slot-preserved : goal.loop-slot-preserved
@@ -27,7 +27,7 @@ loop-slot-preserved g c =
     let left = c.args.vacant - (m + 1) in
     let goes = eqb-false n 4294967295 (sym c.loop-slot-test.ensures) in
     let inside : n < length slots = omega arith in
-    let here = read_at slots c.as-u32-at.result n c.index-slots-at.result c.as-u32-at.ensures c.if-at-slots.false c.index-slots-at.is in
+    let here = read_at slots c.as_u32-at.result n c.index-slots-at.result c.as_u32-at.ensures c.if-at-slots.false c.index-slots-at.is in
     let one_more : m + 1 ≡ suc m = omega arith in
     let one_less : suc left ≡ c.args.vacant - m = omega arith in (
       omega arith,

@@ -8,19 +8,19 @@ pub vacate-requires : goal.vacate-requires
 vacate-requires g c =
     let le = occupied_le (take c.min-end.result c.args.slots.now) in
     let l = length-take c.min-end.result c.args.slots.now in
-    let a = c.move-down-count.ensures.answer in
-    let k = c.move-down-count.auto.slots in
+    let a = c.move_down-count.ensures.answer in
+    let k = c.move_down-count.auto.slots in
     record { order = omega arith; within = omega arith }
 
 pub returns : goal.returns
 returns g c =
     let numbers = c.args.self.now in let slots = c.args.slots.now in let scratch = c.args.scratch.now in
     let vacant = c.if-used-self.false in let long = c.if-scratch-used.false in
-    let end = c.min-end.result in let count = c.move-down-count.result in
-    let is = c.min-end.ensures in let moved = c.move-down-count.ensures in
+    let end = c.min-end.result in let count = c.move_down-count.result in
+    let is = c.min-end.ensures in let moved = c.move_down-count.ensures in
     record {
       answer = answer_moved numbers slots scratch vacant long;
-      slots = slots_moved numbers slots scratch vacant long end count is moved.answer c.move-down-count.new.slots c.vacate.new.slots moved.front moved.back c.vacate.ensures;
-      scratch = scratch_moved numbers slots scratch vacant long end count is moved.answer c.move-down-count.new.scratch moved.scratch;
+      slots = slots_moved numbers slots scratch vacant long end count is moved.answer c.move_down-count.new.slots c.vacate.new.slots moved.front moved.back c.vacate.ensures;
+      scratch = scratch_moved numbers slots scratch vacant long end count is moved.answer c.move_down-count.new.scratch moved.scratch;
       numbers = numbers_moved numbers slots scratch vacant long end count is moved.answer;
     }

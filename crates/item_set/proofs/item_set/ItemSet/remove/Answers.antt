@@ -4,4 +4,4 @@ use Rattle.item_set.proofs.item_set.ItemSet.remove.Goals as goal
 
 pub put-requires : goal.put-requires
 put-requires g c =
-    held_in_below c.args.self.now c.args.slots.now c.args.index c.in-ok-item.item (sym c.get.ensures ∙ c.in-ok-item.was)
+    held_in_below c.args.self.now c.args.slots.now c.args.index c.in_ok-item.item (sym c.get.ensures ∙ c.in_ok-item.was)

@@ -18,14 +18,14 @@ overflow-sub-in-use g c = let le = occupied_le c.in-use-in-use.result.now in ome
 pub returns : goal.returns
 returns g c =
     let numbers = c.args.self.now in let slots = c.args.slots.now in
-    let live = c.in-use-in-use.result.now in
-    let is : live ≡ in_use numbers slots = c.in-use-in-use.ensures.value in
-    let n = c.count-occupied-occupied.result in
+    let live = c.in_use-in_use.result.now in
+    let is : live ≡ in_use numbers slots = c.in_use-in_use.ensures.value in
+    let n = c.count_occupied-occupied.result in
     let len = c.if-occupied-self.false in
-    let count : occupied (in_use numbers slots) ≡ numbers.len = sym (ap occupied is) ∙ sym c.count-occupied-occupied.ensures ∙ len in
-    let few : length (in_use numbers slots) ≤ 4294967295 = let b = c.in-use-in-use.ensures.bound in let l = ap length is in omega arith in
-    let answer : c.check-chain.result ≡ unless (first_fault numbers slots) =
-    c.check-chain.ensures
+    let count : occupied (in_use numbers slots) ≡ numbers.len = sym (ap occupied is) ∙ sym c.count_occupied-occupied.ensures ∙ len in
+    let few : length (in_use numbers slots) ≤ 4294967295 = let b = c.in_use-in_use.ensures.bound in let l = ap length is in omega arith in
+    let answer : c.check_chain.result ≡ unless (first_fault numbers slots) =
+    c.check_chain.ensures
     ∙ ap unless (
     ap (λ l. follow l (length l - n) 0 numbers.free_head) is
     ∙ ap (λ (k : ℕ). follow (in_use numbers slots) (length (in_use numbers slots) - k) 0 numbers.free_head) len
