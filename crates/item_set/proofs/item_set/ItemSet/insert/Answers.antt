@@ -20,7 +20,7 @@ returns g c =
     let numbers = c.args.self.now in let slots = c.args.slots.now in
     let e : vacant_next (in_use numbers slots) numbers.free_head.0 ≡ Some c.in-Some.next = next_read numbers.free_head.0 c.in_use.ensures.value c.next_at.ensures c.in-Some.is in
     let few : numbers.len < 4294967295 = omega arith in
-    let some : numbers.free_head.0 ≡ 4294967295 → ⊥ = eqb-false _ _ (sym c.is_sentinel.ensures ∙ c.if-is-sentinel.false) in
+    let some : numbers.free_head.0 ≡ 4294967295 → ⊥ = eqb-false _ _ (sym c.is_sentinel.ensures ∙ c.if-is_sentinel.false) in
     let i = index_at_head numbers slots few some c.in-Some.next e in
     record {
       answer = sym (ap (λ o. ok_or o (record { item = c.args.item })) i);

@@ -6,14 +6,14 @@ use Rattle.item_set.proofs.Packing.{occupied_le}
 use Rattle.item_set.proofs.Soundness.{fault_of_chain, none_if_ok, no_fault_if_sound, sound_if_no_fault}
 use Rattle.item_set.proofs.item_set.ItemSet.validate.Goals as goal
 
-pub count-occupied-occupied-requires : goal.count-occupied-occupied-requires
-count-occupied-occupied-requires g c = c.in-use-in-use.ensures.bound
+pub count_occupied-occupied-requires : goal.count_occupied-occupied-requires
+count_occupied-occupied-requires g c = c.in_use-in_use.ensures.bound
 
-pub overflow-cast-in-use : goal.overflow-cast-in-use
-overflow-cast-in-use g c = let b = c.in-use-in-use.ensures.bound in record { fits = omega arith }
+pub overflow_cast-in_use : goal.overflow_cast-in_use
+overflow_cast-in_use g c = let b = c.in_use-in_use.ensures.bound in record { fits = omega arith }
 
-pub overflow-sub-in-use : goal.overflow-sub-in-use
-overflow-sub-in-use g c = let le = occupied_le c.in-use-in-use.result.now in omega arith
+pub overflow_sub-in_use : goal.overflow_sub-in_use
+overflow_sub-in_use g c = let le = occupied_le c.in_use-in_use.result.now in omega arith
 
 pub returns : goal.returns
 returns g c =
