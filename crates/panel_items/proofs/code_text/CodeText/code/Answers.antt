@@ -7,6 +7,6 @@ use Rattle.panel_items.proofs.code_text.CodeText.code.Goals as goal
 
 pub returns : goal.returns
 returns c = record {
-  value = c.from-be-bytes.ensures ∙ eight_digits c.bytes.result (search rules) ∙ ap (number_from_digits 256) c.bytes.ensures;
+  value = c.from_be_bytes.ensures ∙ eight_digits c.bytes.result (search rules) ∙ ap (number_from_digits 256) c.bytes.ensures;
   order = codes_in_text_order;
 }
