@@ -11,10 +11,10 @@ use Rattle.index_table.proofs.Rising.{rising, risen_vacant, risen_item, rises_if
 use Rattle.index_table.proofs.Walking.{names_walk, named_if_names}
 use Rattle.index_table.proofs.check.ascends.Goals as goal
 
-pub returns-in-default : goal.returns-in-default
-returns-in-default g c =
+pub returns-in_default : goal.returns-in_default
+returns-in_default g c =
     let order = g.T.IdOrdItem.order in let slots = c.args.slots.now in let es = c.args.entries.now in let k = c.loop-entry.entry-index in
-    let here : held (seen slots (entry_at es k)) ≡ None = ap (λ (i : ItemIndex). held (at slots i.0)) (sym c.value.ensures) ∙ sym c.item-at.ensures ∙ c.in-default.is in
+    let here : held (seen slots (entry_at es k)) ≡ None = ap (λ (i : ItemIndex). held (at slots i.0)) (sym c.value.ensures) ∙ sym c.item_at.ensures ∙ c.in_default.is in
     let ends : rising order slots None es ≡ false =
     sym c.loop-entry.invariant ∙ at_drop_more (rising order slots c.loop-entry.before) es k (entry_of (index_of 0)) c.loop-entry-test.true ∙ risen_vacant order slots c.loop-entry.before _ _ here in
     record {
@@ -25,7 +25,7 @@ returns-in-default g c =
 pub returns-then-not-follows : goal.returns-then-not-follows
 returns-then-not-follows g c =
     let order = g.T.IdOrdItem.order in let slots = c.args.slots.now in let es = c.args.entries.now in let k = c.loop-entry.entry-index in
-    let here : held (seen slots (entry_at es k)) ≡ Some c.in-Some.item = ap (λ (i : ItemIndex). held (at slots i.0)) (sym c.value.ensures) ∙ sym c.item-at.ensures ∙ c.in-Some.is in
+    let here : held (seen slots (entry_at es k)) ≡ Some c.in-Some.item = ap (λ (i : ItemIndex). held (at slots i.0)) (sym c.value.ensures) ∙ sym c.item_at.ensures ∙ c.in-Some.is in
     let ends : rising order slots None es ≡ false =
     sym c.loop-entry.invariant ∙ at_drop_more (rising order slots c.loop-entry.before) es k (entry_of (index_of 0)) c.loop-entry-test.true
     ∙ risen_item order slots c.loop-entry.before _ _ c.in-Some.item false here (sym c.if-not-follows.ensures) in
@@ -37,7 +37,7 @@ returns-then-not-follows g c =
 pub loop-entry-preserved : goal.loop-entry-preserved
 loop-entry-preserved g c =
     let order = g.T.IdOrdItem.order in let slots = c.args.slots.now in let es = c.args.entries.now in let k = c.loop-entry.entry-index in
-    let here : held (seen slots (entry_at es k)) ≡ Some c.in-Some.item = ap (λ (i : ItemIndex). held (at slots i.0)) (sym c.value.ensures) ∙ sym c.item-at.ensures ∙ c.in-Some.is in
+    let here : held (seen slots (entry_at es k)) ≡ Some c.in-Some.item = ap (λ (i : ItemIndex). held (at slots i.0)) (sym c.value.ensures) ∙ sym c.item_at.ensures ∙ c.in-Some.is in
     sym (risen_item order slots c.loop-entry.before (λ x. rising order slots (Some x) (drop (k + 1) es)) _ c.in-Some.item true here (sym c.if-not-follows.ensures))
     ∙ sym (at_drop_more (rising order slots c.loop-entry.before) es k (entry_of (index_of 0)) c.loop-entry-test.true) ∙ c.loop-entry.invariant
 

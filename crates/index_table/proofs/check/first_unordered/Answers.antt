@@ -4,16 +4,16 @@ use Rattle.index_table.specs.Check.{unordered}
 use Rattle.index_table.proofs.Places.{from_found, from_none}
 use Rattle.index_table.proofs.check.first_unordered.Goals as goal
 
-pub returns-then-not-comes-after : goal.returns-then-not-comes-after
-returns-then-not-comes-after g c =
+pub returns-then-not-comes_after : goal.returns-then-not-comes_after
+returns-then-not-comes_after g c =
     let test = unordered g.T.IdOrdItem.order c.args.slots.now c.args.entries.now in
-    let here = ap not (sym c.if-not-comes-after.ensures) in let low = c.loop-place.auto.place in
+    let here = ap not (sym c.if-not-comes_after.ensures) in let low = c.loop-place.auto.place in
     sym (from_found test (length c.args.entries.now - 1) 1 c.loop-place.place low (omega arith) c.loop-place.invariant here)
 
 pub loop-place-preserved : goal.loop-place-preserved
 loop-place-preserved g c i low high =
     let test = unordered g.T.IdOrdItem.order c.args.slots.now c.args.entries.now in
-    let here : test c.loop-place.place ≡ false = ap not (sym c.if-not-comes-after.ensures) in
+    let here : test c.loop-place.place ≡ false = ap not (sym c.if-not-comes_after.ensures) in
     ⊎_elim (c.loop-place.invariant i low) (λ h. let e : i ≡ c.loop-place.place = omega arith in ap test e ∙ here) (cases_lt i c.loop-place.place)
 
 pub returns : goal.returns

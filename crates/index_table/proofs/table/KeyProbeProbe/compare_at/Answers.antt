@@ -13,12 +13,12 @@ pub returns-in-Some : goal.returns-in-Some
 returns-in-Some g c =
     let slots = c.args.self.now.slots.now in let entries = c.args.self.now.entries.now in
     let ask = g.T.IdOrdItem.order (g.Q.Comparable.meant c.args.self.now.query.now) in
-    let here = ap (λ (i : ItemIndex). held (at slots i.0)) (sym c.value.ensures) ∙ sym c.item-at.ensures ∙ c.in-Some.is in
+    let here = ap (λ (i : ItemIndex). held (at slots i.0)) (sym c.value.ensures) ∙ sym c.item_at.ensures ∙ c.in-Some.is in
     c.compare.ensures ∙ sym (answer_at ask slots entries c.args.place (entry_of (index_of 0)) c.if-place-self.false ∙ asked_held ask _ c.in-Some.item here)
 
 pub returns-in-None : goal.returns-in-None
 returns-in-None g c =
     let slots = c.args.self.now.slots.now in let entries = c.args.self.now.entries.now in
     let ask = g.T.IdOrdItem.order (g.Q.Comparable.meant c.args.self.now.query.now) in
-    let here = ap (λ (i : ItemIndex). held (at slots i.0)) (sym c.value.ensures) ∙ sym c.item-at.ensures ∙ c.in-None.is in
+    let here = ap (λ (i : ItemIndex). held (at slots i.0)) (sym c.value.ensures) ∙ sym c.item_at.ensures ∙ c.in-None.is in
     sym (answer_at ask slots entries c.args.place (entry_of (index_of 0)) c.if-place-self.false ∙ asked_vacant ask _ here)
