@@ -3,7 +3,7 @@ use Rattle.std.proofs.Common.{◌≡◌, ℕ, List, [], ◌∷◌, Ordering, sym
 use Rattle.id_ord_item.specs.Order.{LawfulOrder}
 use Rattle.item_set.specs.declared.item_set.ItemSet.{ItemSet}
 use Rattle.id_ord_law.specs.Law.{Start, Begins, BeginsBy, Reached, ran, stood, Ran, Onward}
-use Rattle.id_ord_law.specs.Law.Begins as a-start
+use Rattle.id_ord_law.specs.Law.Begins.{by_new as new_parts, by_adopt as adopted_parts}
 use Rattle.id_ord_law.specs.Law.Reached.{begun, called}
 use Rattle.id_ord_law.specs.Law.Start.{by_new, by_adopt}
 use Rattle.id_ord_law.specs.Parts.{Parts, walk, capacity, Sound}
@@ -30,8 +30,8 @@ meets_onward order call m c start before calls items r =
 module _ {T : Type 0} (order : T → T → Ordering) where
   begun_by : (c : ℕ) (how : Start) (p : Parts T) (items : List T) → BeginsBy order c how p items → Begins order c p items
   begun_by c by_new p items b =
-      subst (Begins order c p) (sym b.1) (a-start.by_new (ap (λ (n : ItemSet). n.used) b.0) (ap (λ (n : ItemSet). n.len) b.0) (ap (λ (n : ItemSet). n.free_head) b.0) b.2)
-  begun_by c by_adopt p items b = subst (Begins order c p) (sym b.1) (a-start.by_adopt b.0 b.2)
+      subst (Begins order c p) (sym b.1) (new_parts (ap (λ (n : ItemSet). n.used) b.0) (ap (λ (n : ItemSet). n.len) b.0) (ap (λ (n : ItemSet). n.free_head) b.0) b.2)
+  begun_by c by_adopt p items b = subst (Begins order c p) (sym b.1) (adopted_parts b.0 b.2)
 
   run_reached : (c : ℕ) (p : Parts T) (before : List T) → Reached order c p before → (calls : List (Call T)) → Reached order c (ran order calls p) (stood order c calls before)
   run_reached c p before r [] = r
