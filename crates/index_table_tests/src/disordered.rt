@@ -30,22 +30,23 @@ fn check_promise(
     entries: &[Index],
     query: StayAt,
 ) -> Result<(), Fail> {
-    assert!(rt; find_place(slots, entries, &query) <= entries.len());
+    assert!(rt;
+        find_place(slots, entries, &query) <= entries.len(),
+        "{query:?} in {entries:?}"
+    );
     let Some(slot) = find_index(slots, entries, &query) else {
         return Ok(());
     };
-    assert!(rt; is_named(entries, slot));
+    assert!(rt; is_named(entries, slot), "{query:?} in {entries:?}");
     let item = item_at(slots, slot).ok_or("a slot was found that holds no item")?;
-    assert_eq!(rt; StayAt::of(&item), query);
+    assert_eq!(rt; StayAt::of(&item), query, "in {entries:?}");
     Ok(())
 }
 
 fn check_each_query<const N: usize>(rt: &impl Abort, numbers: [u32; N]) -> Result<(), Fail> {
     let table = entries(numbers)?;
     for from in [5, 10, 15, 20, 25, 30, 35] {
-        check_promise(rt, &slots(), &table, StayAt { berth: 4, from }).note(format_args!(
-            "{from} in {numbers:?}"
-        ))?;
+        check_promise(rt, &slots(), &table, StayAt { berth: 4, from })?;
     }
     Ok(())
 }

@@ -4,6 +4,7 @@ use crate::memory::{entry, held, vacant};
 use index_table::Index;
 use item_set::ItemSlot;
 use panel_items::Stay;
+use std::process::Abort;
 use std::test::*;
 
 const MOST: usize = 9;
@@ -35,33 +36,37 @@ impl Row {
     }
 
     /// Looks for a key among the first `len` entries.
-    fn finds(&self, len: usize, from: u32, answer: (Option<u32>, usize)) -> Result<(), Fail> {
-        assert!(len <= MOST);
-        check_found(&self.slots, &self.table[0..len], (4, from), answer).note(format_args!(
-            "{len} entries"
-        ))
+    fn finds(
+        &self,
+        rt: &impl Abort,
+        len: usize,
+        from: u32,
+        answer: (Option<u32>, usize),
+    ) -> Result<(), Fail> {
+        assert!(rt; len <= MOST);
+        check_found(rt, &self.slots, &self.table[0..len], (4, from), answer)
     }
 
     /// Looks for each key of the first `len` entries, and below, between and above them.
-    fn has_each_key(&self, len: usize) -> Result<(), Fail> {
-        assert!(len <= MOST);
+    fn has_each_key(&self, rt: &impl Abort, len: usize) -> Result<(), Fail> {
+        assert!(rt; len <= MOST);
         for place in 0..len {
             let slot = self.table[place].value().as_u32();
-            self.finds(len, KEYS[place].saturating_sub(5), (None, place))?;
-            self.finds(len, KEYS[place], (Some(slot), place))?;
+            self.finds(rt, len, KEYS[place].saturating_sub(5), (None, place))?;
+            self.finds(rt, len, KEYS[place], (Some(slot), place))?;
         }
-        self.finds(len, KEYS[len].saturating_sub(5), (None, len))?;
+        self.finds(rt, len, KEYS[len].saturating_sub(5), (None, len))?;
         // a slot may hold the next key, but no entry names it
-        self.finds(len, KEYS[len], (None, len))
+        self.finds(rt, len, KEYS[len], (None, len))
     }
 }
 
 #[test]
-fn every_key_and_every_gap() -> Result<(), Fail> {
+fn every_key_and_every_gap(rt: HostRuntime) -> Result<(), Fail> {
     for by in 0..9 {
         let row = Row::turned(by)?;
         for len in 0..10 {
-            row.has_each_key(len)?;
+            row.has_each_key(&rt, len)?;
         }
     }
     Ok(())

@@ -11,16 +11,18 @@ fn three_stays() -> [ItemSlot<Stay>; 4] {
 }
 
 #[test]
-fn in_an_empty_table_nothing_is_found() -> Result<(), Fail> {
+fn in_an_empty_table_nothing_is_found(rt: HostRuntime) -> Result<(), Fail> {
     for key in [(0, 0), (4, 530), (4, 540), (u16::MAX, u32::MAX)] {
-        check_found(&three_stays(), &[], key, (None, 0))?;
-        check_found(&[], &[], key, (None, 0))?;
+        check_found(&rt, &three_stays(), &[], key, (None, 0))?;
+        check_found(&rt, &[], &[], key, (None, 0))?;
     }
     Ok(())
 }
 
 #[test]
-fn in_a_table_of_one_entry_a_key_is_before_it_at_it_or_after_it() -> Result<(), Fail> {
+fn in_a_table_of_one_entry_a_key_is_before_it_at_it_or_after_it(
+    rt: HostRuntime,
+) -> Result<(), Fail> {
     let table = entries([2])?;
     let cases = [
         ((0, 0), (None, 0)),
@@ -35,13 +37,13 @@ fn in_a_table_of_one_entry_a_key_is_before_it_at_it_or_after_it() -> Result<(), 
         ((4, 540), (None, 1)),
     ];
     for (key, answer) in cases {
-        check_found(&three_stays(), &table, key, answer)?;
+        check_found(&rt, &three_stays(), &table, key, answer)?;
     }
     Ok(())
 }
 
 #[test]
-fn keys_go_by_berth_and_then_by_beginning() -> Result<(), Fail> {
+fn keys_go_by_berth_and_then_by_beginning(rt: HostRuntime) -> Result<(), Fail> {
     let table = entries([1, 2, 0])?;
     let cases = [
         ((0, 0), (None, 0)),
@@ -59,13 +61,13 @@ fn keys_go_by_berth_and_then_by_beginning() -> Result<(), Fail> {
         ((u16::MAX, u32::MAX), (None, 3)),
     ];
     for (key, answer) in cases {
-        check_found(&three_stays(), &table, key, answer)?;
+        check_found(&rt, &three_stays(), &table, key, answer)?;
     }
     Ok(())
 }
 
 #[test]
-fn in_a_table_with_an_entry_for_each_slot_every_item_is_found() -> Result<(), Fail> {
+fn in_a_table_with_an_entry_for_each_slot_every_item_is_found(rt: HostRuntime) -> Result<(), Fail> {
     let slots = [held(0, 0), held(u16::MAX, u32::MAX), held(7, 1), held(7, 0)];
     let table = entries([0, 3, 2, 1])?;
     let cases = [
@@ -78,7 +80,7 @@ fn in_a_table_with_an_entry_for_each_slot_every_item_is_found() -> Result<(), Fa
         ((u16::MAX, u32::MAX), (Some(1), 3)),
     ];
     for (key, answer) in cases {
-        check_found(&slots, &table, key, answer)?;
+        check_found(&rt, &slots, &table, key, answer)?;
     }
     Ok(())
 }

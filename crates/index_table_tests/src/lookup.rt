@@ -3,6 +3,7 @@ use id_ord_item::Comparable;
 use index_table::{Index, find_index, find_place};
 use item_set::ItemSlot;
 use panel_items::{Stay, StayAt};
+use std::process::Abort;
 use std::test::*;
 
 /// The slot of the key, by its number, and its place.
@@ -20,17 +21,19 @@ fn found<Q: Comparable<Stay>>(
 
 /// A query finds this slot and this place, and so does an item that has the key and is else not as the stored ones.
 pub fn check_found(
+    rt: &impl Abort,
     slots: &[ItemSlot<Stay>],
     entries: &[Index],
     key: (u16, u32),
     answer: (Option<u32>, usize),
 ) -> Result<(), Fail> {
     let (berth, from) = key;
+    let len = entries.len();
     let query = StayAt { berth, from };
-    assert_eq!(
+    assert_eq!(rt;
         found(slots, entries, &query),
         answer,
-        "query ({berth},{from})"
+        "query ({berth},{from}) of {len} entries"
     );
     let item = Stay {
         berth,
@@ -38,10 +41,10 @@ pub fn check_found(
         to: 1,
         vessel: 1,
     };
-    assert_eq!(
+    assert_eq!(rt;
         found(slots, entries, &item),
         answer,
-        "item ({berth},{from})"
+        "item ({berth},{from}) of {len} entries"
     );
     Ok(())
 }

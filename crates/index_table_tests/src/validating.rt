@@ -20,6 +20,7 @@ fn slots() -> [ItemSlot<Stay>; 4] {
 /// The answer is this fault at this place.
 fn is_fault(
     rt: &impl Abort,
+    numbers: &[u32],
     answer: Result<(), TableFault>,
     number: u8,
     place: usize,
@@ -27,8 +28,8 @@ fn is_fault(
     match answer {
         Ok(()) => Err(Fail::new("no fault was found")),
         Err(fault) => {
-            assert_eq!(rt; fault.number(), number);
-            assert_eq!(rt; fault.place(), place);
+            assert_eq!(rt; fault.number(), number, "{numbers:?}");
+            assert_eq!(rt; fault.place(), place, "{numbers:?}");
             Ok(())
         }
     }
@@ -43,7 +44,7 @@ fn finds<const N: usize>(
     place: usize,
 ) -> Result<(), Fail> {
     let answer = validate(&slots(), &entries(numbers)?, len);
-    is_fault(rt, answer, number, place).note(format_args!("{numbers:?}"))
+    is_fault(rt, &numbers, answer, number, place)
 }
 
 fn passes<const N: usize>(rt: &impl Abort, numbers: [u32; N]) -> Result<(), Fail> {
@@ -120,5 +121,5 @@ fn equal_keys_in_two_slots_pass(rt: HostRuntime) -> Result<(), Fail> {
 fn without_slots_only_an_empty_table_passes(rt: HostRuntime) -> Result<(), Fail> {
     let none: [ItemSlot<Stay>; 0] = [];
     assert_eq!(rt; validate(&none, &[], 0), Ok(()));
-    is_fault(&rt, validate(&none, &entries([0])?, 1), NOT_HELD, 0)
+    is_fault(&rt, &[0], validate(&none, &entries([0])?, 1), NOT_HELD, 0)
 }

@@ -2,6 +2,7 @@
 use item_set::{
     CompactRefusal, IndexRemap, ItemIndex, ItemSet, ItemSlot, RemapRefusal, ValidateCompact,
 };
+use std::process::Abort;
 use std::test::*;
 
 /// A store of six slots and what its compaction needs.
@@ -18,7 +19,7 @@ const VACANT: ItemSlot<u32> = ItemSlot::Vacant {
 
 impl Row {
     /// The items 100 to 105 in the slots 0 to 5.
-    fn full() -> Result<Row, Fail> {
+    fn full(rt: &impl Abort) -> Result<Row, Fail> {
         let mut row = Row {
             numbers: ItemSet::new(),
             slots: [VACANT; 6],
@@ -26,18 +27,18 @@ impl Row {
         };
         for at in 0..6 {
             let answer = row.numbers.insert(&mut row.slots, 100 + at);
-            assert_eq!(answer, Ok(ItemIndex::new(at)));
+            assert_eq!(rt; answer, Ok(ItemIndex::new(at)));
         }
         Ok(row)
     }
 
     /// Takes out the items of the slots that are not in the pattern.
-    fn thin_out(&mut self, pattern: u32) -> Result<(), Fail> {
+    fn thin_out(&mut self, rt: &impl Abort, pattern: u32) -> Result<(), Fail> {
         let mut rest = pattern;
         for at in 0..6 {
             if rest % 2 == 0 {
                 let answer = self.numbers.remove(&mut self.slots, ItemIndex::new(at));
-                assert_eq!(answer, Some(100 + at));
+                assert_eq!(rt; answer, Some(100 + at));
             }
             rest /= 2;
         }
@@ -49,55 +50,55 @@ impl Row {
     }
 
     /// The items of the pattern stand from slot 0 on, under the numbers that the remap answers.
-    fn stand_in_order(&self, remap: IndexRemap, pattern: u32) -> Result<(), Fail> {
+    fn stand_in_order(&self, rt: &impl Abort, remap: IndexRemap, pattern: u32) -> Result<(), Fail> {
         let mut rest = pattern;
         let mut new: u32 = 0;
         for at in 0..6 {
             let found = remap.remap(&self.scratch, ItemIndex::new(at));
             if rest % 2 == 0 {
-                assert_eq!(found, Err(RemapRefusal::Gone));
+                assert_eq!(rt; found, Err(RemapRefusal::Gone));
             } else {
-                assert_eq!(found, Ok(ItemIndex::new(new)));
+                assert_eq!(rt; found, Ok(ItemIndex::new(new)));
                 let item = self.numbers.get(&self.slots, ItemIndex::new(new));
-                assert_eq!(item, Some(100 + at));
+                assert_eq!(rt; item, Some(100 + at));
                 new = new.wrapping_add(1);
             }
             rest /= 2;
         }
-        assert_eq!(self.numbers.len, new);
-        assert_eq!(self.numbers.used, new);
+        assert_eq!(rt; self.numbers.len, new);
+        assert_eq!(rt; self.numbers.used, new);
         Ok(())
     }
 
     /// Each slot past the items is vacant and names no other.
-    fn end_vacant(&self) -> Result<(), Fail> {
+    fn end_vacant(&self, rt: &impl Abort) -> Result<(), Fail> {
         let mut at: u32 = 0;
         for slot in self.slots {
             if at >= self.numbers.len {
-                assert_eq!(slot, VACANT);
+                assert_eq!(rt; slot, VACANT);
             }
             at = at.wrapping_add(1);
         }
         Ok(())
     }
 
-    fn is_sound(&self) -> Result<(), Fail> {
-        assert_eq!(self.numbers.validate(&self.slots), Ok(()));
+    fn is_sound(&self, rt: &impl Abort) -> Result<(), Fail> {
+        assert_eq!(rt; self.numbers.validate(&self.slots), Ok(()));
         Ok(())
     }
 }
 
 #[test]
 fn every_pattern_of_six_slots_is_compacted(rt: HostRuntime) -> Result<(), Fail> {
-    let full = Row::full()?;
+    let full = Row::full(&rt)?;
     for pattern in 0..64 {
         let mut row = full;
-        row.thin_out(pattern)?;
-        row.is_sound()?;
+        row.thin_out(&rt, pattern)?;
+        row.is_sound(&rt)?;
         let remap = row.compact()?;
-        row.stand_in_order(remap, pattern)?;
-        row.end_vacant()?;
-        row.is_sound()?;
+        row.stand_in_order(&rt, remap, pattern)?;
+        row.end_vacant(&rt)?;
+        row.is_sound(&rt)?;
         assert_eq!(rt;
             row.numbers.validate_compact(ValidateCompact::Compact),
             Ok(())

@@ -5,7 +5,7 @@ use Rattle.std.specs.List.{AllByRecursion as All}
 use Rattle.std.proofs.lemmas.List.{take_all}
 use Rattle.panel_items_tests.proofs.Top.{Top, top_stays, top_moves}
 use Rattle.panel_items_tests.proofs.every_kind.largest.Goals as goal
-use Rattle.panel_items_tests.proofs.every_kind.largest.Goals.{then-is-gt, else-is-gt}
+use Rattle.panel_items_tests.proofs.every_kind.largest.Goals.{then-is_gt, else-is_gt}
 
 pub loop-item-preserved : goal.loop-item-preserved
 loop-item-preserved g c =
@@ -15,12 +15,12 @@ loop-item-preserved g c =
     let item = c.item-item.result in
     let lawful = g.met.T.IdOrdItem.lawful in
     let order = g.T.IdOrdItem.order in
-    let compared : c.is-gt.result ≡ is_gt (order item best) = cc c.compare.ensures in
+    let compared : c.is_gt.result ≡ is_gt (order item best) = cc c.compare.ensures in
     let within = c.loop-item-test.true in
     let NextTop = Top order items (i + 1) in
-    elim c.if-is-gt.branch [
-      | then-is-gt w ↦ subst NextTop (sym w.best-is) (top_moves lawful items i best item within c.item-item.is c.loop-item.invariant (sym compared ∙ w.if-is-gt.true))
-      | else-is-gt w ↦ subst NextTop (sym w.best-is) (top_stays lawful items i best item within c.item-item.is c.loop-item.invariant (sym compared ∙ w.if-is-gt.false))
+    elim c.if-is_gt.branch [
+      | then-is_gt w ↦ subst NextTop (sym w.best-is) (top_moves lawful items i best item within c.item-item.is c.loop-item.invariant (sym compared ∙ w.if-is_gt.true))
+      | else-is_gt w ↦ subst NextTop (sym w.best-is) (top_stays lawful items i best item within c.item-item.is c.loop-item.invariant (sym compared ∙ w.if-is_gt.false))
     ]
 
 pub returns : goal.returns

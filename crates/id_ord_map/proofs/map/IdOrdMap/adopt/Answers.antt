@@ -4,19 +4,19 @@ use Rattle.id_ord_map.specs.View.{view}
 use Rattle.id_ord_map.proofs.Adopting.{handed_on, accepts_sound, adopted_refused}
 use Rattle.id_ord_map.proofs.map.IdOrdMap.adopt.Goals as goal
 
-pub returns-in-err-check-parts : goal.returns-in-err-check-parts
-returns-in-err-check-parts g c =
-    let order = g.T.IdOrdItem.order in let count = c.args.count in let r = c.from-residual.result in
+pub returns-in_err-check_parts : goal.returns-in_err-check_parts
+returns-in_err-check_parts g c =
+    let order = g.T.IdOrdItem.order in let count = c.args.count in let r = c.from_residual.result in
     let before = view c.args.self.now in
-    let p = offered c.args.used c.args.len c.args.free-head before in
-    let refused = c.in-err-check-parts.ensures.answer in
-    let answer = handed_on r _ (map_fault order p count) c.from-residual.ensures.1 refused in
+    let p = offered c.args.used c.args.len c.args.free_head before in
+    let refused = c.in_err-check_parts.ensures.answer in
+    let answer = handed_on r _ (map_fault order p count) c.from_residual.ensures.1 refused in
     record {
       answer = answer;
       after = adopted_refused order p count before _ refused;
       accepts = accepts_sound order p count g.met.T.IdOrdItem.lawful r answer;
       begins = subst (Begun order before) (refused ∙ sym answer) tt;
-      law = c.runs-hold.ensures;
+      law = c.runs_hold.ensures;
       memory = search rules;
       sound = c.requires.sound;
     }

@@ -9,5 +9,5 @@ pub returns : goal.returns
 returns g c =
     let p = view c.args.self.now in
     let k = g.Q.Comparable.meant c.args.query.now in
-    let e : c.find-index.result ≡ slot_of g.T.IdOrdItem.order k (live p) (entries p) = search rules in
-    looked g.met.T.IdOrdItem.lawful k p c.requires.sound c.find-index.result e
+    let e : c.find_index.result ≡ slot_of g.T.IdOrdItem.order k (live p) (entries p) = search rules in
+    looked g.met.T.IdOrdItem.lawful k p c.requires.sound c.find_index.result e

@@ -13,30 +13,30 @@ loop-at-init g c = (c.requires.sound, omega arith, refl, refl, (refl, refl))
 
 pub loop-at-preserved-in-Keep : goal.loop-at-preserved-in-Keep
 loop-at-preserved-in-Keep g c =
-    let r = g.R.KeepRule in let l = c.loop-at in let k = c.retain-item in let e = k.ensures in
+    let r = g.R.KeepRule in let l = c.loop-at in let k = c.retain_item in let e = k.ensures in
     let t =
     keeps g.T.IdOrdItem.order r.verdict r.changed r.next g.met.T.IdOrdItem.lawful (view l.self) (view k.new.self) l.invariant.0 l.at l.rule k.new.rule
-    c.item-at-item.result c.item-at-item.ensures e.rule (subst (λ a. Turned g.T.IdOrdItem.order c.item-at-item.result (r.changed l.rule c.item-at-item.result) (r.verdict l.rule c.item-at-item.result) l.at (view l.self) (Ok a) (view k.new.self)) c.in-Keep.is c.in-Ok.ensures.turn) in
+    c.item_at-item.result c.item_at-item.ensures e.rule (subst (λ a. Turned g.T.IdOrdItem.order c.item_at-item.result (r.changed l.rule c.item_at-item.result) (r.verdict l.rule c.item_at-item.result) l.at (view l.self) (Ok a) (view k.new.self)) c.in-Keep.is c.in-Ok.ensures.turn) in
     let len = t.2 in
     (e.sound, omega arith, t.0 ∙ l.invariant.2, t.1 ∙ l.invariant.3, (e.memory.0 ∙ l.invariant.4.0, e.memory.1 ∙ l.invariant.4.1))
 
 pub loop-at-preserved : goal.loop-at-preserved
 loop-at-preserved g c =
-    let r = g.R.KeepRule in let l = c.loop-at in let k = c.retain-item in let e = k.ensures in
+    let r = g.R.KeepRule in let l = c.loop-at in let k = c.retain_item in let e = k.ensures in
     let t =
     removes g.T.IdOrdItem.order r.verdict r.changed r.next g.met.T.IdOrdItem.lawful (view l.self) (view k.new.self) l.invariant.0 l.at l.rule k.new.rule
-    c.item-at-item.result c.item-at-item.ensures e.rule (subst (λ a. Turned g.T.IdOrdItem.order c.item-at-item.result (r.changed l.rule c.item-at-item.result) (r.verdict l.rule c.item-at-item.result) l.at (view l.self) (Ok a) (view k.new.self)) c.in-Remove.is c.in-Ok.ensures.turn) in
+    c.item_at-item.result c.item_at-item.ensures e.rule (subst (λ a. Turned g.T.IdOrdItem.order c.item_at-item.result (r.changed l.rule c.item_at-item.result) (r.verdict l.rule c.item_at-item.result) l.at (view l.self) (Ok a) (view k.new.self)) c.in-Remove.is c.in-Ok.ensures.turn) in
     let len = t.2 in
     (e.sound, omega arith, t.0 ∙ l.invariant.2, t.1 ∙ l.invariant.3, (e.memory.0 ∙ l.invariant.4.0, e.memory.1 ∙ l.invariant.4.1))
 
 pub returns-in-Err : goal.returns-in-Err
 returns-in-Err g c =
     let order = g.T.IdOrdItem.order in let r = g.R.KeepRule in
-    let l = c.loop-at in let k = c.retain-item in let e = k.ensures in let s₀ = c.args.rule.now in
+    let l = c.loop-at in let k = c.retain_item in let e = k.ensures in let s₀ = c.args.rule.now in
     let q = view k.new.self in let refusal = c.in-Err.refusal in
     let t =
     stops order r.verdict r.changed r.next g.met.T.IdOrdItem.lawful (view l.self) q l.invariant.0 l.at l.rule k.new.rule
-    c.item-at-item.result c.item-at-item.ensures e.rule refusal c.in-Err.ensures.turn in
+    c.item_at-item.result c.item_at-item.ensures e.rule refusal c.in-Err.ensures.turn in
     let last = sym l.invariant.2 ∙ t.0 in
     let answer = ap (λ (o : Outcome _). o.0) (sym last) in let left = ap (λ (o : Outcome _). o.1) (sym last) in
     record {

@@ -14,7 +14,7 @@ pub returns-then-not-same : goal.returns-then-not-same
 returns-then-not-same g c = record {
   yes = λ e. absurd (both_ways _ refl e);
   no = λ each. absurd (not_same_if_other g.T.IdOrdItem.equal (view c.args.self.now) (view c.args.other.now) c.requires.sound c.requires.other
-      c.loop-place.place c.item-at-left.result c.item-at-right.result c.item-at-left.ensures c.item-at-right.ensures (sym c.same.ensures ∙ c.if-not-same.true) each);
+      c.loop-place.place c.item_at-left.result c.item_at-right.result c.item_at-left.ensures c.item_at-right.ensures (sym c.same.ensures ∙ c.if-not-same.true) each);
 }
 
 pub returns : goal.returns

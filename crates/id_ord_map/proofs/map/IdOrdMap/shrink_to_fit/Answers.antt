@@ -11,8 +11,8 @@ returns-in-Permuted g c =
     let p = view c.args.self.now in let scratch = c.args.scratch.now in
     let s = c.requires.sound in let left = c.compact.new in let e = c.compact.ensures in
     let does =
-    shrink_moves p s scratch c.compact.result c.in-ok-remap.remap c.in-Permuted.used e.answer c.in-ok-remap.was c.in-Permuted.is
-    left.slots c.remap-indexes.new.table left.scratch left.self e.slots c.remap-indexes.ensures e.scratch e.numbers in
+    shrink_moves p s scratch c.compact.result c.in_ok-remap.remap c.in-Permuted.used e.answer c.in_ok-remap.was c.in-Permuted.is
+    left.slots c.remap_indexes.new.table left.scratch left.self e.slots c.remap_indexes.ensures e.scratch e.numbers in
     let call = Call.shrink_to_fit (length scratch) in
     record {
       does = does;
