@@ -5,7 +5,6 @@ use Rattle.std.specs.Prelude.{ℕ, Ok, Err, Result}
 use Rattle.item_set.specs.Refusal.{compact_number}
 use Rattle.item_set.specs.declared.compaction.CompactRefusal.{CompactRefusal}
 use Rattle.item_set.specs.declared.remap.IndexRemap.{IndexRemap}
-use Rattle.id_ord_law.specs.Standing.{Answer}
 use Rattle.id_ord_law.specs.Standing.Answer.{done, none, gave, duplicate, full, key_changed, stale, stale_offered, shrunk}
 use Rattle.id_ord_law.specs.Step.{Answered}
 use Rattle.id_ord_errors.specs.declared.adding.DuplicateItem.{DuplicateItem}

@@ -1,5 +1,5 @@
 -- Sound parts stay sound where an item is added.
-use Rattle.std.proofs.Common.{◌≡◌, ℕ, ◌+◌, ◌-◌, ◌<◌, ◌≤◌, min, Bool, true, false, cond, eqb, ◌⊎◌, List, [], ◌∷◌, ◌++◌, length, take, drop, set, Some, None, Ordering, sym, refl, ap, ◌∙◌, subst, ap₂, inl, inr, arith}
+use Rattle.std.proofs.Common.{◌≡◌, ℕ, ◌+◌, ◌<◌, ◌≤◌, min, Bool, true, false, cond, List, [], ◌∷◌, ◌++◌, length, take, drop, set, Some, None, Ordering, sym, refl, ap, ◌∙◌, subst, ap₂, inl, inr, arith}
 use lib.Seq.{take-set-lt}
 use Rattle.std.proofs.lemmas.List.Edits.{length-insert}
 use Rattle.std.proofs.lemmas.List.{length-set, length-drop, length-append, length_push, take_at, take_more_set, get_or_push, get_or_append_left, get_or_past}
@@ -16,7 +16,7 @@ use Rattle.item_set.specs.declared.slot.ItemSlot.{ItemSlot}
 use Rattle.item_set.specs.declared.slot.ItemSlot.TheVariants.{Occupied, Vacant}
 use Rattle.index_table.proofs.Walking.{Names}
 use Rattle.index_table.specs.Entry.{entry_of}
-use Rattle.index_table.specs.Walk.{Ascending, smaller}
+use Rattle.index_table.specs.Walk.{smaller}
 use Rattle.index_table.specs.declared.entry.Index.{Index}
 use Rattle.id_ord_law.specs.Parts.{limit, Parts, parts, numbers, live, entries, walk, capacity, Holds, Sound}
 use Rattle.id_ord_law.specs.Standing.{found, placed_in}
@@ -24,7 +24,7 @@ use Rattle.id_ord_law.specs.Step.{add_at}
 use Rattle.id_ord_law.proofs.Naming.{seen_vacant, names_inserted}
 use Rattle.id_ord_law.proofs.Places.{inserted_placed, smaller_most}
 use Rattle.id_ord_law.proofs.Sorting.{ascending_placed}
-use Rattle.id_ord_law.proofs.Steps.{Leaves, leaves, live_long, len_used, entries_long, walk_long}
+use Rattle.id_ord_law.proofs.Steps.{Leaves, leaves, live_long, entries_long, walk_long}
 
 module _ {T : Type 0} where
   -- the same, by whether no slot is free

@@ -1,5 +1,5 @@
 -- What a map is after a call: sound parts are sound again, and a run goes on.
-use Rattle.std.proofs.Common.{◌≡◌, ℕ, List, [], ◌∷◌, Ordering, sym, refl, ap, ◌∙◌, subst, subst₂}
+use Rattle.std.proofs.Common.{ℕ, List, [], ◌∷◌, Ordering, sym, refl, ap, ◌∙◌, subst, subst₂}
 use Rattle.id_ord_item.specs.Order.{LawfulOrder}
 use Rattle.item_set.specs.declared.item_set.ItemSet.{ItemSet}
 use Rattle.id_ord_law.specs.Law.{Start, Begins, BeginsBy, Reached, ran, stood, Ran, Onward}

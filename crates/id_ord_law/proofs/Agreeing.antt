@@ -1,16 +1,15 @@
 -- A map agrees with the machine where its parts are sound and its walk is the set in key order: what one call then gives.
-use Rattle.std.proofs.Common.{◌≡◌, ℕ, ◌<◌, Bool, true, false, List, [], ◌∷◌, map, length, take, is_some, Some, None, Option, Ordering, Equal, sym, refl, ap, ◌∙◌, subst, arith}
+use Rattle.std.proofs.Common.{◌≡◌, ℕ, true, List, [], map, length, take, Some, Ordering, Equal, sym, refl, ap, ◌∙◌, subst, arith}
 use mathlib.Core.List.{Memᴰ as Among}
-use Rattle.std.specs.List.{slice_get}
 use Rattle.id_ord_item.specs.Order.{LawfulOrder}
 use Rattle.item_set.specs.Chain.{SoundSet}
 use Rattle.item_set.specs.Slots.{sentinel, occupied}
 use Rattle.index_table.specs.Walk.{seen, Ascending, smaller}
 use Rattle.id_ord_law.specs.Law.{SlotOf, heard, moved}
 use Rattle.id_ord_law.specs.Parts.{Parts, numbers, live, entries, name_at, walk, capacity, Holds, Sound}
-use Rattle.id_ord_law.specs.Standing.{Answer, Said, found, stands, in_order}
+use Rattle.id_ord_law.specs.Standing.{Said, found, stands, in_order}
 use Rattle.id_ord_law.specs.Step.{Answered, Outcome}
-use Rattle.id_ord_law.proofs.Keys.{nth_below, some_if, found_among, found_same}
+use Rattle.id_ord_law.proofs.Keys.{some_if, found_among, found_same}
 use Rattle.id_ord_law.proofs.Occupied.{keys_apart, names_sound}
 use Rattle.id_ord_law.proofs.Places.{nth_smaller}
 use Rattle.id_ord_law.proofs.Sorting.{length_in_order, in_order_among, among_in_order}

@@ -1,19 +1,17 @@
 -- Every call on a map that agrees with the machine fits it.
-use Rattle.std.proofs.Common.{◌≡◌, ℕ, ◌-◌, ◌≤◌, Bool, true, false, cond, eqb, ltb, List, [], ◌∷◌, length, take, is_some, Some, None, Ok, Err, Option, Ordering, Equal, unwrap_or, sym, refl, ap, ◌∙◌, subst, ap₂, subst₂, arith}
+use Rattle.std.proofs.Common.{◌≡◌, ℕ, ◌-◌, Bool, true, false, cond, eqb, ltb, List, [], ◌∷◌, is_some, Some, None, Ok, Err, Option, Ordering, Equal, unwrap_or, sym, refl, ap, ◌∙◌, subst, ap₂, subst₂, arith}
 use Rattle.std.proofs.lemmas.Bool.{eqb-true, eqb-false}
 use Rattle.std.specs.Option.{option_map}
 use Rattle.std.specs.Ordering.{is_eq}
 use Rattle.std.specs.List.{slice_get}
 use Rattle.id_ord_item.specs.Order.{LawfulOrder}
 use Rattle.item_set.proofs.Slots.{occupied_below}
-use Rattle.item_set.specs.Slots.{sentinel}
 use Rattle.item_set.specs.Store.{cleared}
 use Rattle.item_set.specs.declared.compaction.CompactRefusal.TheVariants.{Short}
 use Rattle.item_set.specs.declared.remap.IndexRemap.TheVariants.{Identity, Permuted}
-use Rattle.index_table.proofs.Walking.{Names}
 use Rattle.index_table.specs.Walk.{Ascending, smaller}
-use Rattle.id_ord_law.specs.Law.{SlotOf, heard, moved}
-use Rattle.id_ord_law.specs.Parts.{Parts, parts, live, entries, name_at, walk, capacity, Holds, Sound}
+use Rattle.id_ord_law.specs.Law.{SlotOf, heard}
+use Rattle.id_ord_law.specs.Parts.{Parts, parts, live, name_at, walk, capacity}
 use Rattle.id_ord_law.specs.Standing.{Rule, Call, Answer, Said, given, found, stands, without, placed_in, in_order, added, added_said, replaced, guarded, guarded_said, taken_out, kept, kept_said, after, said}
 use Rattle.id_ord_law.specs.Step.{Answered, Outcome, add_at, remove_at, write_at, new_number, compacted, adding, removing, replacing, guarding, popping, retaining, shrinking, step}
 use Rattle.id_ord_law.proofs.Adding.{added_leaves}
@@ -23,7 +21,7 @@ use Rattle.id_ord_law.proofs.Places.{nth_smaller, removed_without, set_placed}
 use Rattle.id_ord_law.proofs.Retaining.{Retained, retain_leaves, retain_says, retain_still}
 use Rattle.id_ord_law.proofs.Shrinking.{compacted_leaves, compacted_holds, number_same}
 use Rattle.id_ord_law.proofs.Sorting.{in_order_without, in_order_ascending}
-use Rattle.id_ord_law.proofs.Steps.{Leaves, Back, leaves, live_long, written_leaves, written_back, removed_leaves, removed_back}
+use Rattle.id_ord_law.proofs.Steps.{Leaves, live_long, written_leaves, written_back, removed_leaves, removed_back}
 
 module _ {T : Type 0} {order : T → T → Ordering} (lawful : LawfulOrder order) (c : ℕ) (p : Parts T) (items : List T) (a : Agrees order c p items) where
   -- adding

@@ -1,10 +1,10 @@
 -- What compacting the slots and then rewriting the entries leaves is what shrink-to-fit does.
-use Rattle.std.proofs.Common.{◌≡◌, ℕ, zero, suc, ◌+◌, ◌-◌, ◌<◌, ◌≤◌, min, Bool, true, false, cond, not, eqb, ltb, List, [], ◌∷◌, ◌++◌, map, length, get_or, take, drop, replicate, Ok, Err, Result, Ordering, sym, refl, ap, ◌∙◌, ap₂, arith}
-use Rattle.std.proofs.lemmas.List.{length-append, length-drop, length-take, get_or_append_left}
-use Rattle.std.proofs.lemmas.Bool.{cond-true, cond-false, lt-ltb, ne_eqb, eqb-false, ltb-false}
+use Rattle.std.proofs.Common.{◌≡◌, ℕ, zero, suc, ◌+◌, ◌-◌, ◌≤◌, min, Bool, true, false, cond, not, eqb, ltb, List, [], ◌∷◌, ◌++◌, map, length, get_or, take, drop, replicate, Ok, Err, Result, Ordering, sym, refl, ap, ◌∙◌, ap₂, arith}
+use Rattle.std.proofs.lemmas.List.{length-append, length-take, get_or_append_left}
+use Rattle.std.proofs.lemmas.Bool.{cond-true, cond-false, lt-ltb, ne_eqb}
 use Rattle.item_set.proofs.Packing.{length_new_numbers, occupied_le}
 use Rattle.item_set.proofs.Slots.{occupied_below}
-use Rattle.item_set.specs.Compact.{new_numbers, packed, compact_answer, compacted_slots, compacted_scratch, remapped, compacted as compactedNumbers, renumbered as numberOr}
+use Rattle.item_set.specs.Compact.{new_numbers, packed, compact_answer, compacted_slots, compacted_scratch, compacted as compactedNumbers, renumbered as numberOr}
 use Rattle.item_set.specs.Slots.{at, index_of, sentinel, occupied}
 use Rattle.item_set.specs.declared.compaction.CompactRefusal.{CompactRefusal}
 use Rattle.item_set.specs.declared.compaction.CompactRefusal.TheVariants.{Short}
@@ -12,8 +12,6 @@ use Rattle.item_set.specs.declared.index.ItemIndex.{ItemIndex}
 use Rattle.item_set.specs.declared.item_set.ItemSet.{ItemSet}
 use Rattle.item_set.specs.declared.remap.IndexRemap.{IndexRemap}
 use Rattle.item_set.specs.declared.remap.IndexRemap.TheVariants.{Identity, Permuted}
-use Rattle.item_set.specs.declared.remap.RemapRefusal.{RemapRefusal}
-use Rattle.item_set.specs.declared.remap.RemapRefusal.TheVariants.{Range}
 use Rattle.item_set.specs.declared.slot.ItemSlot.{ItemSlot}
 use Rattle.item_set.specs.declared.slot.ItemSlot.TheVariants.{Occupied, Vacant}
 use Rattle.index_table.proofs.Walking.{Names}
@@ -21,9 +19,9 @@ use Rattle.index_table.specs.Entry.{entry_of}
 use Rattle.index_table.specs.Shift.{new_or, renumbered, rewritten}
 use Rattle.index_table.specs.Walk.{seen}
 use Rattle.index_table.specs.declared.entry.Index.{Index}
-use Rattle.id_ord_law.specs.Parts.{Parts, parts, numbers, live, entries, names, walk, Sound}
+use Rattle.id_ord_law.specs.Parts.{Parts, parts, numbers, live, entries, walk, Sound}
 use Rattle.id_ord_law.specs.Standing.{Call, Answer}
-use Rattle.id_ord_law.specs.Step.{Outcome, new_number, compacted, shrinking, Meets}
+use Rattle.id_ord_law.specs.Step.{Outcome, compacted, shrinking, Meets}
 use Rattle.id_ord_law.proofs.Steps.{limit_low, live_long}
 
 module _ {T : Type 0} where

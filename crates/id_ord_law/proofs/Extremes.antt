@@ -1,13 +1,13 @@
 -- What is read of a sound map is what a sorted collection gives.
-use Rattle.std.proofs.Common.{◌≡◌, ℕ, zero, suc, ◌-◌, ◌<◌, ◌≤◌, ◌⊎◌, List, [], ◌∷◌, length, Some, None, Option, Ordering, Less, Equal, sym, refl, ap, ◌∙◌, inl, inr, arith}
+use Rattle.std.proofs.Common.{◌≡◌, ℕ, zero, suc, ◌-◌, ◌<◌, List, [], ◌∷◌, length, Some, None, Option, Ordering, Less, sym, refl, ap, ◌∙◌, inl, inr, arith}
 use mathlib.Core.List.Memᴰ.{cases_cons as either}
 use mathlib.Core.List.Memᴰ.{not-nil as nowhere}
 use mathlib.Core.List.{Memᴰ as Among}
 use Rattle.std.proofs.lemmas.Bool.{cases_lt}
 use Rattle.std.specs.List.{slice_get}
 use Rattle.id_ord_item.specs.Order.{LawfulOrder}
-use Rattle.index_table.specs.Walk.{Below, Ascending}
-use Rattle.id_ord_law.specs.Parts.{Parts, walk, Sound}
+use Rattle.index_table.specs.Walk.{Ascending}
+use Rattle.id_ord_law.specs.Parts.{walk}
 use Rattle.id_ord_law.specs.Reading.{HasKey, Least, Greatest, ReadLaw}
 use Rattle.id_ord_law.specs.Standing.{found}
 use Rattle.id_ord_law.proofs.Keys.{nth_among, nth_some, nth_past, found_among, absent, below_has}

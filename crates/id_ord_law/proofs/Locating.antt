@@ -1,15 +1,15 @@
 -- The slot that the search of a table finds is the one named by the key's place.
-use Rattle.std.proofs.Common.{◌≡◌, ℕ, suc, Bool, true, false, List, [], ◌∷◌, Some, None, Option, Ordering, Less, Equal, Greater, sym, refl, ap, ◌∙◌, arith}
+use Rattle.std.proofs.Common.{◌≡◌, ℕ, List, [], ◌∷◌, Some, None, Option, Ordering, Less, Equal, Greater, sym, refl, ap, ◌∙◌, arith}
 use Rattle.std.specs.Option.{option_map}
 use Rattle.std.specs.Ordering.{is_eq, is_lt}
 use Rattle.std.specs.List.{slice_get}
 use Rattle.id_ord_item.specs.Order.{LawfulOrder}
-use Rattle.id_ord_item.proofs.Order.{less_swaps, greater_swaps}
+use Rattle.id_ord_item.proofs.Order.{greater_swaps}
 use Rattle.item_set.specs.Slots.{at, index_of}
 use Rattle.item_set.specs.declared.index.ItemIndex.{ItemIndex}
 use Rattle.item_set.specs.declared.slot.ItemSlot.{ItemSlot}
 use Rattle.item_set.specs.declared.slot.ItemSlot.TheVariants.{Occupied}
-use Rattle.index_table.proofs.Finding.{answer, Answer, hold}
+use Rattle.index_table.proofs.Finding.{answer, hold}
 use Rattle.index_table.proofs.Finding.Answer.{is_less, is_equal, is_greater}
 use Rattle.index_table.proofs.Walking.{Names}
 use Rattle.index_table.specs.Walk.{seen, Ascending, smaller, slot_of}

@@ -1,5 +1,5 @@
 -- Entries that name ascending items, when a slot is written and when an entry comes or goes.
-use Rattle.std.proofs.Common.{◌≡◌, ℕ, zero, suc, ◌<◌, List, [], ◌∷◌, map, length, get_or, set, Some, None, Ordering, Less, Equal, Greater, sym, refl, ap, ◌∙◌, ap₂, arith}
+use Rattle.std.proofs.Common.{◌≡◌, ℕ, zero, suc, List, [], ◌∷◌, map, get_or, set, Some, Ordering, Less, sym, refl, ap, ◌∙◌, ap₂, arith}
 use Rattle.std.proofs.lemmas.List.{map-set}
 use Rattle.std.specs.List.{insert, remove, slice_get}
 use Rattle.id_ord_item.specs.Order.{LawfulOrder}

@@ -1,9 +1,9 @@
 -- Ascending entries that are as many as the occupied slots name them all, so the walk is the items in them in key order.
-use Rattle.std.proofs.Common.{◌≡◌, ℕ, zero, suc, ◌<◌, ◌≤◌, Bool, true, false, cond, eqb, ◌⊎◌, List, [], ◌∷◌, map, length, set, Some, None, Ordering, Less, Equal, Greater, sym, refl, ap, ◌∙◌, subst, ap₂, inl, inr, arith}
+use Rattle.std.proofs.Common.{◌≡◌, ℕ, zero, suc, ◌<◌, ◌≤◌, true, false, eqb, List, [], ◌∷◌, map, length, set, Some, Ordering, Less, Equal, sym, refl, ap, ◌∙◌, subst, ap₂, inl, inr, arith}
 use mathlib.Core.List.Memᴰ.{head as here}
 use mathlib.Core.List.Memᴰ.{tail as there}
 use mathlib.Core.List.{Memᴰ as Among}
-use Rattle.std.proofs.lemmas.Bool.{cond-true, cond-false, both_ways, cases_Bool, cases_eq, eqb-true, eqb-false, ne_eqb}
+use Rattle.std.proofs.lemmas.Bool.{cond-true, cond-false, cases_Bool, eqb-true, eqb-false}
 use Rattle.std.specs.List.{slice_get}
 use Rattle.id_ord_item.specs.Order.{LawfulOrder}
 use Rattle.id_ord_item.proofs.Order.{equal_swaps}
@@ -11,12 +11,11 @@ use Rattle.item_set.proofs.Chains.{occupied_out}
 use Rattle.item_set.proofs.Keeping.{set_keeps}
 use Rattle.item_set.proofs.Slots.{occupied_below}
 use Rattle.item_set.specs.Slots.{at, sentinel, occupied}
-use Rattle.item_set.specs.declared.index.ItemIndex.{ItemIndex}
 use Rattle.item_set.specs.declared.slot.ItemSlot.{ItemSlot}
 use Rattle.item_set.specs.declared.slot.ItemSlot.TheVariants.{Occupied, Vacant}
 use Rattle.index_table.proofs.Walking.{Names as EachNames}
 use Rattle.index_table.specs.Check.{named}
-use Rattle.index_table.specs.Walk.{seen, onto, Below, Ascending}
+use Rattle.index_table.specs.Walk.{seen, onto, Ascending}
 use Rattle.index_table.specs.declared.entry.Index.{Index}
 use Rattle.id_ord_law.specs.Law.{Names}
 use Rattle.id_ord_law.specs.Parts.{Parts, live, entries, name_at, walk, items_in, Holds, Sound}

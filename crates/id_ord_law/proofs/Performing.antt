@@ -1,12 +1,11 @@
 -- The calls of the slot store and of the table that make up a step leave what the step says.
-use Rattle.std.proofs.Common.{◌≡◌, ℕ, zero, suc, ◌+◌, ◌-◌, ◌<◌, ◌≤◌, Bool, true, false, cond, ◌&&◌, eqb, ltb, leb, ◌⊎◌, List, [], ◌∷◌, ◌++◌, map, length, get_or, take, set, is_some, Some, None, Ok, Err, Option, Result, Ordering, Equal, sym, refl, ap, ◌∙◌, subst, ap₂, inl, inr, arith}
+use Rattle.std.proofs.Common.{◌≡◌, ℕ, zero, suc, ◌<◌, ◌≤◌, Bool, true, false, cond, ◌&&◌, ltb, leb, List, [], ◌∷◌, map, length, get_or, take, set, is_some, Some, None, Ok, Err, Option, Result, Ordering, Equal, sym, refl, ap, ◌∙◌, subst, ap₂, inl, inr, arith}
 use Rattle.std.proofs.lemmas.Bool.{eqb-true, eqb-false, cases_lt, cond-true, cond-false, ne_eqb, lt-ltb, le-leb}
 use Rattle.std.specs.Option.{ok_or}
 use Rattle.std.specs.List.{slice_get}
 use Rattle.id_ord_item.specs.Order.{LawfulOrder}
 use Rattle.item_set.proofs.Inserting.{index_at_end, index_at_head, inserted_if}
 use Rattle.item_set.proofs.Keeping.{all_held}
-use Rattle.item_set.proofs.Slots.{occupied_below}
 use Rattle.item_set.specs.Chain.{Chain}
 use Rattle.item_set.specs.Slots.{at, held, index_of, sentinel, next_free, vacant_next}
 use Rattle.item_set.specs.Store.{none_free, next_index, held_in, put_at, insert_answer, inserted_slots, inserted, replace_answer, removed_slots, removed, replaced_slots}
@@ -15,13 +14,13 @@ use Rattle.item_set.specs.declared.item_set.ItemSet.{ItemSet}
 use Rattle.item_set.specs.declared.item_set.NoSlot.{NoSlot}
 use Rattle.item_set.specs.declared.item_set.NotHeld.{NotHeld}
 use Rattle.item_set.specs.declared.slot.ItemSlot.{ItemSlot}
-use Rattle.item_set.specs.declared.slot.ItemSlot.TheVariants.{Occupied, Vacant}
+use Rattle.item_set.specs.declared.slot.ItemSlot.TheVariants.{Occupied}
 use Rattle.index_table.specs.Entry.{entry_of, made}
 use Rattle.index_table.specs.Shift.{opened, closed}
 use Rattle.index_table.specs.Walk.{smaller}
 use Rattle.index_table.specs.declared.entry.Index.{Index}
 use Rattle.index_table.specs.declared.entry.IndexRefusal.{IndexRefusal}
-use Rattle.id_ord_law.specs.Parts.{limit, Parts, parts, numbers, live, entries, names, name_at, walk, capacity, Sound}
+use Rattle.id_ord_law.specs.Parts.{Parts, parts, numbers, live, name_at, walk, capacity, Sound}
 use Rattle.id_ord_law.specs.Standing.{found, stands}
 use Rattle.id_ord_law.specs.Step.{fresh, add_at, remove_at, write_at}
 use Rattle.id_ord_law.proofs.Adding.{added_leaves}

@@ -1,15 +1,15 @@
 -- The place of a key among ascending items, and the items with one put in, taken out or written there.
-use Rattle.std.proofs.Common.{◌≡◌, ℕ, zero, suc, ◌<◌, ◌≤◌, Bool, true, false, ◌⊎◌, List, [], ◌∷◌, length, set, Some, None, Ordering, Less, Equal, Greater, sym, refl, ap, ◌∙◌, inl, inr, arith}
+use Rattle.std.proofs.Common.{◌≡◌, ℕ, zero, suc, ◌≤◌, false, List, [], ◌∷◌, length, set, Some, Ordering, Less, Equal, sym, refl, ap, ◌∙◌, inl, inr, arith}
 use Rattle.std.proofs.lemmas.Bool.{both_ways}
 use Rattle.std.specs.Ordering.{is_eq, is_lt}
 use Rattle.std.specs.List.{insert, remove, slice_get}
 use Rattle.id_ord_item.specs.Order.{LawfulOrder}
 use Rattle.id_ord_item.proofs.Order.{less_swaps, greater_swaps, alike_right}
-use Rattle.index_table.proofs.Finding.{answer, Answer, smaller_is}
+use Rattle.index_table.proofs.Finding.{answer, smaller_is}
 use Rattle.index_table.proofs.Finding.Answer.{is_less, is_equal, is_greater}
-use Rattle.index_table.specs.Walk.{Below, Ascending, counting, smaller}
+use Rattle.index_table.specs.Walk.{Ascending, counting, smaller}
 use Rattle.id_ord_law.specs.Standing.{found, without, placed_in}
-use Rattle.id_ord_law.proofs.Keys.{equal_or, less_or, nth_among, found_here, found_later, found_among, without_here, without_later, without_below, below_has, below_equal, below_less, below_set, other_key}
+use Rattle.id_ord_law.proofs.Keys.{less_or, nth_among, found_here, found_later, found_among, without_here, without_later, without_below, below_has, below_equal, below_less, below_set, other_key}
 use Rattle.id_ord_law.proofs.Sorting.{placed_later, placed_here, placed_below}
 
 module _ {T : Type 0} {order : T → T → Ordering} (lawful : LawfulOrder order) where

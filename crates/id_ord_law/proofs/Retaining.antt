@@ -1,5 +1,5 @@
 -- Sound parts stay sound while items are shown to a rule, one after the other.
-use Rattle.std.proofs.Common.{◌≡◌, ℕ, zero, suc, ◌+◌, Bool, true, false, cond, List, [], ◌∷◌, ◌++◌, length, set, Some, None, Ordering, Less, Equal, Greater, sym, refl, ap, ◌∙◌, subst, append_assoc, arith}
+use Rattle.std.proofs.Common.{◌≡◌, ℕ, suc, Bool, true, false, cond, List, [], ◌∷◌, ◌++◌, length, set, Some, Ordering, Equal, sym, refl, ap, ◌∙◌, subst, append_assoc, arith}
 use Rattle.std.proofs.lemmas.List.{set_at, length_push}
 use Rattle.std.specs.Ordering.{is_eq}
 use Rattle.std.specs.List.{remove, slice_get}
@@ -8,7 +8,7 @@ use Rattle.id_ord_item.proofs.Order.{equal_swaps}
 use Rattle.id_ord_item.specs.declared.rule.Verdict.{Verdict}
 use Rattle.id_ord_item.specs.declared.rule.Verdict.TheVariants.{Keep, Remove}
 use Rattle.id_ord_law.specs.Law.{heard, moved}
-use Rattle.id_ord_law.specs.Parts.{Parts, walk, Holds, Sound}
+use Rattle.id_ord_law.specs.Parts.{Parts, walk, Sound}
 use Rattle.id_ord_law.specs.Standing.{Rule, Answer, decided, kept, kept_said}
 use Rattle.id_ord_law.specs.Step.{Answered, Outcome, write_at, remove_at, retaining}
 use Rattle.id_ord_law.proofs.Keys.{equal_if}

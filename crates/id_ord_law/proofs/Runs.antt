@@ -1,5 +1,5 @@
 -- The law over runs of calls.
-use Rattle.std.proofs.Common.{◌≡◌, ℕ, Bool, true, List, [], ◌∷◌, Ordering, sym, refl, ap, ◌∙◌, subst, ap₂, subst₂}
+use Rattle.std.proofs.Common.{◌≡◌, ℕ, Bool, true, List, [], ◌∷◌, Ordering, sym, refl, ap, ◌∙◌, subst, subst₂}
 use mathlib.Core.List.{Memᴰ as Among}
 use Rattle.std.proofs.lemmas.List.Elements.{same_from_all_zip}
 use Rattle.id_ord_item.specs.Order.{LawfulOrder}

@@ -1,5 +1,5 @@
 -- A compaction gives each occupied slot the number of the occupied slots below it, and keeps the walk.
-use Rattle.std.proofs.Common.{◌≡◌, ℕ, zero, suc, ◌+◌, ◌-◌, ◌<◌, ◌≤◌, min, List, [], ◌∷◌, ◌++◌, map, length, take, drop, replicate, Ordering, sym, refl, ap, ◌∙◌, subst, ap₂, arith}
+use Rattle.std.proofs.Common.{◌≡◌, ℕ, zero, suc, ◌-◌, ◌≤◌, min, List, [], ◌∷◌, ◌++◌, map, length, take, drop, replicate, Ordering, sym, refl, ap, ◌∙◌, subst, ap₂, arith}
 use Rattle.std.proofs.lemmas.List.{length-append, length-drop, length-map, length-replicate, take_at}
 use Rattle.item_set.proofs.Packing.{length_packed, occupied_le}
 use Rattle.item_set.specs.Chain.{SoundSet}

@@ -1,16 +1,15 @@
 -- The items in key order.
-use Rattle.std.proofs.Common.{◌≡◌, ℕ, suc, Bool, true, false, cond, not, ◌⊎◌, List, [], ◌∷◌, length, Some, None, Ordering, Less, Equal, Greater, sym, refl, ap, ◌∙◌, subst, ap₂, inl, inr, ⊎_elim, arith}
+use Rattle.std.proofs.Common.{◌≡◌, ℕ, suc, false, cond, not, ◌⊎◌, List, [], ◌∷◌, length, None, Ordering, Less, Equal, sym, refl, ap, ◌∙◌, subst, ap₂, inl, inr, ⊎_elim, arith}
 use mathlib.Core.List.Memᴰ.{cases_cons as either}
-use mathlib.Core.List.Memᴰ.{cast}
 use mathlib.Core.List.Memᴰ.{head as here}
 use mathlib.Core.List.Memᴰ.{not-nil as nowhere}
 use mathlib.Core.List.Memᴰ.{tail as there}
 use mathlib.Core.List.{Memᴰ as Among}
 use Rattle.std.proofs.lemmas.Bool.{cond-true, cond-false, both_ways}
-use Rattle.std.specs.Ordering.{is_eq, is_lt, ordering_reverse}
+use Rattle.std.specs.Ordering.{is_eq, is_lt}
 use Rattle.id_ord_item.specs.Order.{LawfulOrder}
 use Rattle.id_ord_item.proofs.Order.{less_swaps, greater_swaps}
-use Rattle.index_table.proofs.Finding.{answer, Answer}
+use Rattle.index_table.proofs.Finding.{answer}
 use Rattle.index_table.proofs.Finding.Answer.{is_less, is_equal, is_greater}
 use Rattle.index_table.specs.Walk.{Below, Ascending}
 use Rattle.id_ord_law.specs.Standing.{found, without, placed_in, in_order}

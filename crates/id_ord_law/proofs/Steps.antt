@@ -1,28 +1,24 @@
 -- Sound parts stay sound where an item is written or taken out.
-use Rattle.std.proofs.Common.{◌≡◌, ℕ, zero, suc, ◌+◌, ◌-◌, ◌<◌, ◌≤◌, min, Bool, true, false, cond, ◌⊎◌, List, [], ◌∷◌, ◌++◌, map, length, get_or, take, drop, set, Some, None, Ordering, Less, Equal, Greater, sym, refl, ap, ◌∙◌, subst, ap₂, inl, inr, arith, lit≤}
+use Rattle.std.proofs.Common.{◌≡◌, ℕ, ◌-◌, ◌<◌, ◌≤◌, min, List, ◌++◌, length, take, drop, set, Some, Ordering, Equal, sym, ap, ◌∙◌, subst, ap₂, inl, inr, arith, lit≤}
 use lib.Seq.{take-set-lt}
-use Rattle.std.proofs.lemmas.List.Edits.{length-insert, length-remove}
-use Rattle.std.proofs.lemmas.List.{length-set, length-take, length-drop, length-append, take_at, take_more_set, get_or_push, get_or_append_left, get_or_past, length_push}
-use Rattle.std.proofs.lemmas.Bool.{eqb-true, eqb-false, cases_eq, cases_lt}
-use Rattle.std.specs.List.{insert, remove, slice_get}
+use Rattle.std.proofs.lemmas.List.Edits.{length-remove}
+use Rattle.std.proofs.lemmas.List.{length-set, length-take, length-drop, length-append, take_at}
+use Rattle.std.proofs.lemmas.Bool.{cases_eq}
+use Rattle.std.specs.List.{remove, slice_get}
 use Rattle.id_ord_item.specs.Order.{LawfulOrder}
-use Rattle.item_set.proofs.Chains.{vacant_next_lem}
-use Rattle.item_set.proofs.Keeping.{set_keeps, set_here, all_held, sound_at_end, sound_at_head, sound_removed, sound_replaced}
-use Rattle.item_set.proofs.Slots.{occupied_below, vacant_below, at_within}
-use Rattle.item_set.specs.Chain.{Chain, SoundSet}
-use Rattle.item_set.specs.Slots.{at, index_of, sentinel, next_free, vacant_next}
-use Rattle.item_set.specs.Store.{in_use, none_free}
-use Rattle.item_set.specs.declared.index.ItemIndex.{ItemIndex}
+use Rattle.item_set.proofs.Keeping.{set_keeps, set_here, sound_removed, sound_replaced}
+use Rattle.item_set.proofs.Slots.{occupied_below}
+use Rattle.item_set.specs.Chain.{SoundSet}
+use Rattle.item_set.specs.Slots.{at, index_of}
 use Rattle.item_set.specs.declared.slot.ItemSlot.{ItemSlot}
 use Rattle.item_set.specs.declared.slot.ItemSlot.TheVariants.{Occupied, Vacant}
 use Rattle.index_table.proofs.Walking.{Names, names_length, names_walk, named_if_names}
-use Rattle.index_table.specs.Entry.{entry_of}
 use Rattle.index_table.specs.Walk.{Ascending}
 use Rattle.index_table.specs.declared.entry.Index.{Index}
-use Rattle.id_ord_law.specs.Parts.{limit, Parts, parts, numbers, live, entries, names, name_at, walk, capacity, Holds, Sound}
-use Rattle.id_ord_law.specs.Step.{fresh, add_at, remove_at, write_at}
+use Rattle.id_ord_law.specs.Parts.{limit, Parts, numbers, live, entries, name_at, walk, capacity, Holds, Sound}
+use Rattle.id_ord_law.specs.Step.{remove_at, write_at}
 use Rattle.id_ord_law.proofs.Keys.{nth_below, ascending_removed}
-use Rattle.id_ord_law.proofs.Naming.{holds_at, seen_vacant, names_written, names_removed, names_inserted}
+use Rattle.id_ord_law.proofs.Naming.{holds_at, names_written, names_removed}
 use Rattle.id_ord_law.proofs.Places.{ascending_set}
 
 -- every slot in use has a number below SENTINEL

@@ -16,7 +16,7 @@
 --     SameItems xs ys              the same items stand
 --     heard answer                 an answer without what only the memory can say
 --     RunLaw order same            what holds of every map that is reached
-use Rattle.std.specs.Prelude.{◌≡◌, ℕ, ◌<◌, Bool, true, List, [], ◌∷◌, length, Ok, Err, Result}
+use Rattle.std.specs.Prelude.{◌≡◌, ℕ, ◌<◌, Bool, true, List, [], ◌∷◌, length, Ok, Err}
 use Rattle.std.specs.declared.cmp.Ordering.TheVariants.{Equal}
 use Rattle.std.specs.declared.cmp.Ordering.{Ordering}
 use mathlib.Core.List.{Memᴰ as Among}
@@ -25,7 +25,7 @@ use Rattle.item_set.specs.Slots.{sentinel}
 use Rattle.item_set.specs.Store.{cleared}
 use Rattle.index_table.specs.Walk.{Ascending}
 use Rattle.id_ord_law.specs.Parts.{Parts, Sound, Holds, numbers, live, name_at, walk, capacity, items_in}
-use Rattle.id_ord_law.specs.Standing.{Call, Answer, Said, after, said, stands}
+use Rattle.id_ord_law.specs.Standing.{Call, Said, after, said, stands}
 use Rattle.id_ord_law.specs.Standing.Answer.{done, none, gave, duplicate, full, key_changed, stale, stale_offered, shrunk}
 use Rattle.id_ord_law.specs.Step.{Answered, Meets, new_number, step}
 

@@ -8,7 +8,7 @@
 --     compacted p                  the parts after a compaction that moves items
 --     step order call p            the answer, and the parts after
 --     Meets order call p answer q  the call, made on the parts p, answers so and leaves the parts q
-use Rattle.std.specs.Prelude.{◌≡◌, ℕ, suc, ◌+◌, ◌-◌, Bool, cond, List, [], ◌∷◌, ◌++◌, map, take, drop, replicate, Some, None, Ok, Err, Option, Result, ◌==◌, nat_lt, slice_set}
+use Rattle.std.specs.Prelude.{◌≡◌, ℕ, suc, ◌+◌, ◌-◌, cond, List, [], ◌∷◌, ◌++◌, map, take, drop, replicate, Some, None, Ok, Err, Result, ◌==◌, nat_lt, slice_set}
 use Rattle.std.specs.declared.cmp.Ordering.{Ordering}
 use Rattle.std.specs.Option.{option_map, unwrap_or}
 use Rattle.std.specs.Ordering.{is_eq}

@@ -7,7 +7,7 @@ use Rattle.index_table.specs.Walk.{smaller, slot_of}
 use Rattle.id_ord_law.specs.Parts.{Parts, live, entries, walk, Sound}
 use Rattle.id_ord_law.proofs.Locating.{standing, missing}
 use Rattle.id_ord_law.proofs.Performing.{place_below}
-use Rattle.id_ord_map.specs.Looking.{Standing, Looked}
+use Rattle.id_ord_map.specs.Looking.{Looked}
 
 module _ {T : Type 0} {order : T → T → Ordering} (lawful : LawfulOrder order) (k : T) (p : Parts T) (s : Sound order p) where
   pub looked : (r : Option ItemIndex) → r ≡ slot_of order k (live p) (entries p) → Looked order k p r

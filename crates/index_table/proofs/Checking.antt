@@ -1,6 +1,6 @@
 -- What the looks at one entry say, and why ascending entries pass every test.
-use Rattle.std.proofs.Common.{◌≡◌, ℕ, zero, suc, ◌-◌, ◌<◌, ◌≤◌, Bool, true, false, cond, not, eqb, List, [], ◌∷◌, map, length, get_or, take, is_some, Some, None, Option, Ordering, Less, Equal, Greater, sym, refl, ap, ◌∙◌, inl, inr, arith}
-use Rattle.std.proofs.lemmas.Bool.{cond-false, cases_eq, ne_eqb}
+use Rattle.std.proofs.Common.{◌≡◌, ℕ, zero, suc, ◌-◌, ◌<◌, Bool, false, not, List, [], ◌∷◌, length, take, is_some, Option, Ordering, Less, sym, refl, ap, ◌∙◌, arith}
+use Rattle.std.proofs.lemmas.Bool.{cond-false, ne_eqb}
 use Rattle.id_ord_item.specs.Order.{LawfulOrder}
 use Rattle.item_set.specs.Slots.{at, held}
 use Rattle.item_set.specs.declared.index.ItemIndex.{ItemIndex}

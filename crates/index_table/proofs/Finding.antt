@@ -1,8 +1,7 @@
 -- The place of a key among ascending items, and the slot that holds it.
 use Rattle.std.proofs.Common.{◌≡◌, ℕ, zero, suc, ◌<◌, ◌≤◌, List, [], ◌∷◌, map, length, get_or, Some, None, Ok, Err, Option, Result, Ordering, Less, Equal, Greater, sym, refl, ap, ◌∙◌, subst, arith}
-use Rattle.std.specs.Ordering.{ordering_reverse}
 use Rattle.id_ord_item.specs.Order.{LawfulOrder}
-use Rattle.id_ord_item.proofs.Order.{alike_right, less_swaps, greater_swaps}
+use Rattle.id_ord_item.proofs.Order.{less_swaps, greater_swaps}
 use Rattle.item_set.specs.declared.index.ItemIndex.{ItemIndex}
 use Rattle.item_set.specs.declared.slot.ItemSlot.{ItemSlot}
 use Rattle.item_set.specs.declared.slot.ItemSlot.TheVariants.{Occupied}

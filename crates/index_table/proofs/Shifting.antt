@@ -1,5 +1,5 @@
 -- A table while its entries are moved one up or one down, and while they are rewritten.
-use Rattle.std.proofs.Common.{◌≡◌, ℕ, zero, suc, ◌+◌, ◌-◌, ◌<◌, ◌≤◌, List, [], ◌∷◌, ◌++◌, map, length, get_or, take, drop, set, sym, refl, ap, ◌∙◌, arith, rules}
+use Rattle.std.proofs.Common.{◌≡◌, ℕ, ◌+◌, ◌-◌, ◌<◌, ◌≤◌, List, ◌++◌, map, length, get_or, take, drop, set, sym, ap, ◌∙◌, arith, rules}
 use Rattle.std.proofs.lemmas.List.{places, same_lists, get_or-set_same, get_or_at, drop_more, map_more, length-map, length-take-le}
 use Rattle.std.proofs.lemmas.Bool.{cases_eq, cond-true, and_from, le-leb, lt-ltb}
 use Rattle.std.specs.List.{insert, remove}

@@ -1,7 +1,7 @@
 -- Entries that each name an item, and the items that they name.
-use Rattle.std.proofs.Common.{◌≡◌, ℕ, zero, suc, ◌<◌, ◌≤◌, List, [], ◌∷◌, map, length, get_or, Some, None, Ordering, Less, sym, refl, ap, ◌∙◌, arith}
+use Rattle.std.proofs.Common.{◌≡◌, ℕ, zero, suc, ◌<◌, ◌≤◌, List, [], ◌∷◌, map, length, get_or, Some, None, Ordering, sym, refl, ap, ◌∙◌, arith}
 use Rattle.item_set.specs.declared.slot.ItemSlot.{ItemSlot}
-use Rattle.item_set.specs.declared.slot.ItemSlot.TheVariants.{Occupied, Vacant}
+use Rattle.item_set.specs.declared.slot.ItemSlot.TheVariants.{Occupied}
 use Rattle.index_table.specs.Search.{asked, answers_of}
 use Rattle.index_table.specs.Walk.{slot_at, seen, onto, walk, Named}
 use Rattle.index_table.specs.declared.entry.Index.{Index}

@@ -3,7 +3,7 @@
 --     closed table len place        the first len entries without a place, those after it one lower
 --     renumbered remap scratch e    the entry with its slot's new number, where it has one
 --     rewritten table len remap scratch      the first len entries, each with its slot's new number
-use Rattle.std.specs.Prelude.{ℕ, ◌+◌, ◌-◌, Bool, cond, ◌&&◌, List, ◌++◌, map, length, take, drop, Ok, Err, Result, nat_le, nat_lt}
+use Rattle.std.specs.Prelude.{ℕ, ◌+◌, ◌-◌, cond, ◌&&◌, List, ◌++◌, map, length, take, drop, Ok, Err, Result, nat_le, nat_lt}
 use Rattle.std.specs.List.{insert, remove}
 use Rattle.item_set.specs.Compact.{remapped}
 use Rattle.item_set.specs.declared.index.ItemIndex.{ItemIndex}

@@ -1,5 +1,5 @@
 -- What a compaction that moves something answers and leaves.
-use Rattle.std.proofs.Common.{◌≡◌, ℕ, ◌-◌, ◌<◌, ◌≤◌, min, Bool, true, false, cond, not, eqb, ltb, List, ◌++◌, length, take, drop, replicate, Ok, sym, refl, ap, ◌∙◌, ⊎_elim, arith}
+use Rattle.std.proofs.Common.{◌≡◌, ℕ, ◌-◌, ◌≤◌, min, true, not, List, ◌++◌, length, take, drop, replicate, Ok, sym, ap, ◌∙◌, ⊎_elim, arith}
 use Rattle.std.proofs.lemmas.List.{take_all, drop_all, length-take}
 use Rattle.std.proofs.lemmas.Bool.{cond-true, cond-false, ne_eqb, le-ltb, cases_lt}
 use Rattle.item_set.specs.Compact.{moves, compact_answer, new_numbers, packed, compacted_slots, compacted_scratch, compacted}

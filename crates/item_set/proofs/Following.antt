@@ -1,7 +1,7 @@
 -- The walk along the chain of free slots, one slot at a time, and what it shows of the whole chain.
-use Rattle.std.proofs.Common.{◌≡◌, ℕ, zero, suc, ◌+◌, ◌<◌, ◌≤◌, Bool, true, false, cond, eqb, ltb, List, [], ◌∷◌, length, Some, None, Option, sym, refl, ap, ◌∙◌, arith}
-use Rattle.std.proofs.lemmas.Bool.{cond-true, cond-false, ne_eqb, lt-ltb, le-ltb, eq-eqb, eqb-true, eqb-false, ltb-true}
-use Rattle.item_set.specs.Slots.{at, index_of, sentinel, next_free, free_next, vacant_next}
+use Rattle.std.proofs.Common.{◌≡◌, ℕ, zero, suc, ◌<◌, ◌≤◌, Bool, true, false, cond, eqb, ltb, List, [], ◌∷◌, length, Some, None, Option, sym, refl, ap, ◌∙◌, arith}
+use Rattle.std.proofs.lemmas.Bool.{cond-true, cond-false, ne_eqb, lt-ltb, le-ltb, eq-eqb, eqb-true, ltb-true}
+use Rattle.item_set.specs.Slots.{at, index_of, next_free, free_next}
 use Rattle.item_set.specs.Chain.{follow, reached, passed, Chain}
 use Rattle.item_set.specs.declared.fault.ItemSetFault.{ItemSetFault}
 use Rattle.item_set.specs.declared.fault.ItemSetFault.TheVariants.{ChainRange, ChainOccupied, ChainLong, ChainShort}

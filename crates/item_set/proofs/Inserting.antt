@@ -1,5 +1,5 @@
 -- Which slot takes one more item, and the numbers after it.
-use Rattle.std.proofs.Common.{◌≡◌, ℕ, ◌+◌, ◌<◌, ◌≤◌, min, Bool, true, false, cond, ltb, List, length, take, is_some, Some, None, Option, sym, refl, ap, ◌∙◌, arith}
+use Rattle.std.proofs.Common.{◌≡◌, ◌+◌, ◌<◌, ◌≤◌, min, Bool, true, false, cond, List, length, is_some, Some, None, sym, ap, ◌∙◌, arith}
 use Rattle.std.proofs.lemmas.Bool.{cond-true, cond-false, eq-eqb, ne_eqb, lt-ltb, le-ltb}
 use Rattle.item_set.specs.Slots.{at, index_of, next_free, vacant_next}
 use Rattle.item_set.specs.Store.{in_use, none_free, end_index, head_index, next_index, grown, inserted}

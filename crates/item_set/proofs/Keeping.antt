@@ -1,8 +1,7 @@
 -- A sound store stays sound: after an insert, a removal and a replacing.
-use Rattle.std.proofs.Common.{◌≡◌, ℕ, zero, suc, ◌+◌, ◌-◌, ◌<◌, ◌≤◌, Bool, true, false, cond, ◌≢◌, List, [], ◌∷◌, ◌++◌, length, get_or, take, set, Some, sym, refl, ap, ◌∙◌, subst, ⊎_elim, arith}
+use Rattle.std.proofs.Common.{◌≡◌, ℕ, ◌+◌, ◌-◌, ◌<◌, ◌≤◌, List, [], ◌∷◌, ◌++◌, length, set, Some, sym, refl, ap, ◌∙◌, subst, arith}
 use lib.Seq.{take-set-lt}
-use Rattle.std.proofs.lemmas.List.{length-set, length-take, length_push, get_or-set_same, get_or-set_other, get_or_push, get_or_append_left, get_or_past, take_more_set, take-set-le}
-use Rattle.std.proofs.lemmas.Bool.{cases_lt}
+use Rattle.std.proofs.lemmas.List.{length-set, length-take, length_push, get_or-set_same, get_or-set_other, take_more_set}
 use Rattle.std.specs.List.{AllByRecursion as All}
 use Rattle.item_set.specs.Chain.{Chain, SoundSet}
 use Rattle.item_set.specs.Slots.{at, index_of, sentinel, next_free, vacant_next, occupied}

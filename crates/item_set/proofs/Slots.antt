@@ -1,8 +1,8 @@
 -- What a read of a slot says of its number.
-use Rattle.std.proofs.Common.{◌≡◌, ℕ, ◌<◌, ◌≤◌, min, Bool, true, false, cond, ltb, List, length, get_or, take, Some, None, Option, sym, refl, ap, ◌∙◌, ⊎_elim, arith}
+use Rattle.std.proofs.Common.{◌≡◌, ℕ, ◌<◌, Bool, true, false, cond, ltb, List, length, get_or, take, Some, None, Option, sym, refl, ap, ◌∙◌, ⊎_elim, arith}
 use Rattle.std.proofs.lemmas.List.{get_or_past, get_or_read, length-take, get_or-take}
 use Rattle.std.proofs.lemmas.Bool.{cases_lt, ltb-true}
-use Rattle.item_set.specs.Slots.{at, held, sentinel, next_free, free_next, vacant_next}
+use Rattle.item_set.specs.Slots.{at, held, sentinel, free_next, vacant_next}
 use Rattle.item_set.specs.declared.index.ItemIndex.{ItemIndex}
 use Rattle.item_set.specs.Store.{in_use, held_in}
 use Rattle.item_set.specs.declared.item_set.ItemSet.{ItemSet}

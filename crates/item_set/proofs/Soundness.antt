@@ -1,11 +1,9 @@
 -- A store is sound exactly where the check of its parts finds no fault.
-use Rattle.std.proofs.Common.{◌≡◌, ℕ, ◌+◌, ◌-◌, ◌≤◌, Bool, true, false, cond, eqb, List, length, Some, None, Ok, Err, Option, sym, refl, ap, ◌∙◌, arith}
+use Rattle.std.proofs.Common.{◌≡◌, ℕ, ◌-◌, ◌≤◌, Bool, true, false, eqb, List, length, Some, None, Ok, Option, sym, refl, ap, ◌∙◌, arith}
 use Rattle.std.proofs.lemmas.Bool.{cond-true, cond-false, eq-eqb, eqb-true}
-use Rattle.item_set.specs.Chain.{Chain, SoundSet, follow, first_fault, unless}
+use Rattle.item_set.specs.Chain.{SoundSet, follow, first_fault, unless}
 use Rattle.item_set.specs.Slots.{occupied}
 use Rattle.item_set.specs.Store.{in_use}
-use Rattle.item_set.specs.declared.fault.ItemSetFault.{ItemSetFault}
-use Rattle.item_set.specs.declared.fault.ItemSetFault.TheVariants.{Count}
 use Rattle.item_set.specs.declared.item_set.ItemSet.{ItemSet}
 use Rattle.item_set.specs.declared.slot.ItemSlot.{ItemSlot}
 use Rattle.item_set.proofs.Following.{chain_from, no_fault}

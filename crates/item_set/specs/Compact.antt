@@ -6,7 +6,7 @@
 --     compact_answer, compacted_slots, compacted_scratch, compacted
 --                                           what `compact` answers, and the slots, the scratch and the numbers after it
 --     remapped remap scratch i              what `remap` answers
-use Rattle.std.specs.Prelude.{ℕ, suc, ◌-◌, min, Bool, true, false, cond, not, ◌&&◌, List, [], ◌∷◌, ◌++◌, length, drop, replicate, Some, None, Ok, Err, Option, Result, ◌==◌, nat_lt, slice_index_or}
+use Rattle.std.specs.Prelude.{ℕ, suc, ◌-◌, min, Bool, false, cond, not, List, [], ◌∷◌, ◌++◌, length, drop, replicate, Some, None, Ok, Err, Option, Result, ◌==◌, nat_lt, slice_index_or}
 use Rattle.item_set.specs.Slots.{index_of, sentinel, occupied}
 use Rattle.item_set.specs.Store.{in_use}
 use Rattle.item_set.specs.declared.compaction.CompactRefusal.{CompactRefusal}

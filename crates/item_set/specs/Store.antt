@@ -10,7 +10,7 @@
 --     removed_slots, removed                      the slots and the numbers after `remove`
 --     replace_answer, replaced_slots               what `replace` answers, and the slots after it
 --     cleared                        the numbers of a store in which no slot is in use
-use Rattle.std.specs.Prelude.{ℕ, ◌+◌, ◌-◌, min, Bool, cond, List, length, take, is_some, Some, None, Option, Result, ◌==◌, nat_lt, slice_set}
+use Rattle.std.specs.Prelude.{◌+◌, ◌-◌, min, Bool, cond, List, length, take, is_some, Some, None, Option, Result, ◌==◌, nat_lt, slice_set}
 use Rattle.std.specs.Option.{ok_or}
 use Rattle.item_set.specs.Slots.{at, held, index_of, sentinel, next_free, vacant_next}
 use Rattle.item_set.specs.declared.index.ItemIndex.{ItemIndex}

@@ -1,12 +1,12 @@
 -- The loop's answer is that of `rising`; whether it is yes says that the entries' items ascend.
-use Rattle.std.proofs.Common.{◌≡◌, ◌+◌, Bool, true, false, cond, List, ◌∷◌, get_or, drop, Some, None, sym, refl, ap, ◌∙◌, subst}
+use Rattle.std.proofs.Common.{◌≡◌, ◌+◌, true, false, drop, Some, None, sym, refl, ap, ◌∙◌, subst}
 use Rattle.std.proofs.lemmas.List.{at_drop_more, at_drop_all}
 use Rattle.std.proofs.lemmas.Bool.{false≢true}
 use Rattle.item_set.specs.Slots.{at, held, index_of}
 use Rattle.item_set.specs.declared.index.ItemIndex.{ItemIndex}
 use Rattle.index_table.specs.Check.{entry_at}
 use Rattle.index_table.specs.Entry.{entry_of}
-use Rattle.index_table.specs.Walk.{seen, walk, Named, Ascending}
+use Rattle.index_table.specs.Walk.{seen, walk, Ascending}
 use Rattle.index_table.proofs.Rising.{rising, risen_vacant, risen_item, rises_if, rising_if}
 use Rattle.index_table.proofs.Walking.{names_walk, named_if_names}
 use Rattle.index_table.proofs.check.ascends.Goals as goal

@@ -1,4 +1,4 @@
-use Rattle.std.proofs.Common.{◌≡◌, true, false, not, length, sym, ap, ◌∙◌, arith}
+use Rattle.std.proofs.Common.{false, length, sym, arith}
 use Rattle.index_table.specs.Check.{nameless}
 use Rattle.index_table.proofs.Checking.{nameless_read}
 use Rattle.index_table.proofs.Places.{first_found, first_none}

@@ -1,4 +1,4 @@
-use Rattle.std.proofs.Common.{◌≡◌, length, sym, ◌∙◌, arith, below_more}
+use Rattle.std.proofs.Common.{length, sym, ◌∙◌, arith, below_more}
 use Rattle.index_table.specs.Check.{repeats}
 use Rattle.index_table.proofs.Checking.{repeats_read}
 use Rattle.index_table.proofs.Places.{first_found, first_none}

@@ -1,4 +1,4 @@
-use Rattle.std.proofs.Common.{◌≡◌, ℕ, ◌-◌, ◌<◌, ◌≤◌, Less}
+use Rattle.std.proofs.Common.{◌≡◌, ◌-◌, ◌<◌, ◌≤◌, Less}
 use Rattle.index_table.specs.Search.{Falling, Past}
 use Rattle.index_table.proofs.halving.search.Given as goal
 

@@ -1,4 +1,4 @@
-use Rattle.std.proofs.Common.{◌≡◌, ℕ, ◌+◌, ◌-◌, List, get_or, set, sym, ap, ◌∙◌, arith}
+use Rattle.std.proofs.Common.{◌≡◌, ◌+◌, ◌-◌, List, get_or, set, ap, ◌∙◌, arith}
 use Rattle.item_set.specs.Slots.{index_of}
 use Rattle.index_table.specs.Entry.{entry_of}
 use Rattle.index_table.specs.declared.entry.Index.{Index}

@@ -2,8 +2,6 @@
 use Rattle.std.proofs.Common.{◌≡◌, ℕ, suc, ◌+◌, ◌-◌, ◌<◌, length, sym, ap, ◌∙◌, arith, eqb-true}
 use borrow.Author.Tests.{eqb-false}
 use Rattle.item_set.specs.Chain.{follow, unless}
-use Rattle.item_set.specs.Slots.{at}
-use Rattle.item_set.specs.declared.slot.ItemSlot.TheVariants.{Occupied, Vacant}
 use Rattle.item_set.proofs.Slots.{read_at}
 use Rattle.item_set.proofs.Following.{follow_range, follow_occupied, follow_more, follow_short}
 use Rattle.item_set.proofs.validation.check_chain.Goals as goal

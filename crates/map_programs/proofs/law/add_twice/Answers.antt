@@ -15,11 +15,11 @@ returns g c =
     let item = c.args.item in
     let p = view c.new-map.result in
     let q = view c.insert_unique.new.self in
-    let r = view c.insert-unique-2.new.self in
-    let answer = inserted c.insert-unique-2.result in
+    let r = view c.insert_unique-2.new.self in
+    let answer = inserted c.insert_unique-2.result in
     let new = parts c.args.slots.now c.args.table.now cleared in
     let room = room_in_new order {p = p} new c.new-map.ensures.after c.requires.room in
     let reached = one_more order (insert_unique item) c.insert_unique.ensures.stands (nothing_yet order p c.new-map.ensures.begins) in
     let one : Reached order (capacity p) q (item ∷ []) = subst (λ (items : List g.row.T.Denot). Reached order (capacity p) q items) (alone order (capacity p) item room) reached in
-    let says = c.new-map.ensures.law.says (capacity p) q r (item ∷ []) answer (insert_unique item) one c.insert-unique-2.ensures.does in
+    let says = c.new-map.ensures.law.says (capacity p) q r (item ∷ []) answer (insert_unique item) one c.insert_unique-2.ensures.does in
     says ∙ again order (capacity p) item (g.met.T.IdOrdItem.lawful.reflexive item)

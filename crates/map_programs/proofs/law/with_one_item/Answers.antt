@@ -1,5 +1,5 @@
 -- The law over runs says what the walk has after one call on a new map.
-use Rattle.std.proofs.Common.{List, [], ◌∷◌, subst}
+use Rattle.std.proofs.Common.{List, subst}
 use Rattle.item_set.specs.Store.{cleared}
 use Rattle.id_ord_law.specs.Law.{Walks}
 use Rattle.id_ord_law.specs.Parts.{parts, capacity}

@@ -21,9 +21,9 @@ returns g c =
     let calls4 = adds_by_entry items.2 items.3 ++ calls3 in
     let calls5 = works_by_entry occupied.0 occupied.1 items.0 ++ calls4 in
     let calls6 = puts_back_and_keeps c.args.taken rule ++ calls5 in
-    let run2 = one_after_the_other order (shrinks_and_clears (length c.args.scratch.now)) calls1 p c.shrink-and-clear.ensures.does c.look-up-or-add.ensures.does in
+    let run2 = one_after_the_other order (shrinks_and_clears (length c.args.scratch.now)) calls1 p c.shrink_and_clear.ensures.does c.look_up_or_add.ensures.does in
     let run3 = one_after_the_other order (adds items.0 items.1) calls2 p c.add.ensures.does run2 in
-    let run4 = one_after_the_other order (adds_by_entry items.2 items.3) calls3 p c.add-by-entry.ensures.does run3 in
-    let run5 = one_after_the_other order (works_by_entry occupied.0 occupied.1 items.0) calls4 p c.work-by-entry.ensures.does run4 in
-    let run6 = one_after_the_other order (puts_back_and_keeps c.args.taken rule) calls5 p c.put-back-and-keep.ensures.does run5 in
-    record { does = one_after_the_other order (takes_out k) calls6 p c.take-out.ensures.does run6; sound = c.take-out.ensures.sound }
+    let run4 = one_after_the_other order (adds_by_entry items.2 items.3) calls3 p c.add_by_entry.ensures.does run3 in
+    let run5 = one_after_the_other order (works_by_entry occupied.0 occupied.1 items.0) calls4 p c.work_by_entry.ensures.does run4 in
+    let run6 = one_after_the_other order (puts_back_and_keeps c.args.taken rule) calls5 p c.put_back_and_keep.ensures.does run5 in
+    record { does = one_after_the_other order (takes_out k) calls6 p c.take_out.ensures.does run6; sound = c.take_out.ensures.sound }

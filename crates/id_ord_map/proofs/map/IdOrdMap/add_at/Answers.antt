@@ -1,5 +1,5 @@
 use Rattle.std.proofs.Common.{refl}
-use Rattle.id_ord_law.proofs.Performing.{inserts_always, entry_always, added}
+use Rattle.id_ord_law.proofs.Performing.{inserts_always, added}
 use Rattle.id_ord_map.specs.View.{view}
 use Rattle.id_ord_map.proofs.map.IdOrdMap.add_at.Goals as goal
 

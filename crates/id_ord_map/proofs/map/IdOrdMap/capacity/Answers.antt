@@ -1,5 +1,4 @@
 -- The code's limit is the one of the definitions.
-use Rattle.std.proofs.Common.{◌≡◌}
 use Rattle.id_ord_law.specs.Parts.{limit}
 use Rattle.id_ord_map.proofs.map.IdOrdMap.capacity.Goals as goal
 

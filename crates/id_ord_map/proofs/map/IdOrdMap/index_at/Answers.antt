@@ -1,4 +1,4 @@
-use Rattle.std.proofs.Common.{◌≡◌, ◌∙◌}
+use Rattle.std.proofs.Common.{◌∙◌}
 use Rattle.id_ord_law.proofs.Performing.{entry_named}
 use Rattle.id_ord_map.specs.View.{view}
 use Rattle.id_ord_map.proofs.map.IdOrdMap.index_at.Goals as goal

@@ -1,4 +1,4 @@
-use Rattle.std.proofs.Common.{◌≡◌, ◌-◌, Ok, sym, refl, ap, ◌∙◌, subst, arith}
+use Rattle.std.proofs.Common.{Ok, sym, refl, ap, ◌∙◌, subst, arith}
 use Rattle.id_ord_law.proofs.After.{meets_onward}
 use Rattle.id_ord_law.proofs.Ruling.{retain_meets}
 use Rattle.id_ord_law.specs.Standing.{Call, Answer, told}

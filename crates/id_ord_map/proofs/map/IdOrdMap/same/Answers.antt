@@ -1,4 +1,4 @@
-use Rattle.std.proofs.Common.{◌≡◌, ℕ, sym, refl, ◌∙◌, arith}
+use Rattle.std.proofs.Common.{sym, refl, ◌∙◌, arith}
 use Rattle.std.proofs.lemmas.Bool.{both_ways}
 use Rattle.id_ord_law.proofs.Comparing.{same_if_alike, not_same_if_longer, not_same_if_other}
 use Rattle.id_ord_map.specs.View.{view}

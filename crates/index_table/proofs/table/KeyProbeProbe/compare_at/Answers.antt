@@ -1,8 +1,7 @@
-use Rattle.std.proofs.Common.{◌≡◌, sym, ap, ◌∙◌}
+use Rattle.std.proofs.Common.{sym, ap, ◌∙◌}
 use Rattle.item_set.specs.Slots.{at, held, index_of}
 use Rattle.item_set.specs.declared.index.ItemIndex.{ItemIndex}
 use Rattle.index_table.specs.Entry.{entry_of}
-use Rattle.index_table.specs.Walk.{seen}
 use Rattle.index_table.proofs.Probing.{answer_at, answer_past, asked_held, asked_vacant}
 use Rattle.index_table.proofs.table.KeyProbeProbe.compare_at.Goals as goal
 

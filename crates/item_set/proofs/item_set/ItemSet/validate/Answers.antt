@@ -1,4 +1,4 @@
-use Rattle.std.proofs.Common.{◌≡◌, ℕ, ◌-◌, ◌≤◌, List, length, sym, ap, ◌∙◌, arith}
+use Rattle.std.proofs.Common.{◌≡◌, ℕ, ◌-◌, ◌≤◌, length, sym, ap, ◌∙◌, arith}
 use Rattle.item_set.specs.Chain.{follow, first_fault, unless}
 use Rattle.item_set.specs.Slots.{occupied}
 use Rattle.item_set.specs.Store.{in_use}
