@@ -47,9 +47,9 @@ fn answers<const N: usize>(
         Err(fault) => Some((fault.number(), fault.layer(), fault.place())),
     };
     assert_eq!(rt; fault, expected);
-    assert_eq!(rt; map.items(), left);
-    assert_eq!(rt; &lent[..], &slots[..]);
-    assert_eq!(rt; &lent_table[..], &entries(table)?[..]);
+    assert_eq!(rt; map.items(), left, "{expected:?}");
+    assert_eq!(rt; &lent[..], &slots[..], "{expected:?}");
+    assert_eq!(rt; &lent_table[..], &entries(table)?[..], "{expected:?}");
     Ok(())
 }
 
@@ -60,7 +60,7 @@ fn finds<const N: usize>(
     told: (u32, u32, u32, u32),
     fault: (u8, Layer, usize),
 ) -> Result<(), Fail> {
-    answers(rt, slots, table, told, Some(fault)).note(format_args!("{fault:?}"))
+    answers(rt, slots, table, told, Some(fault))
 }
 
 #[test]

@@ -64,21 +64,21 @@ fn keep_first(model: &mut Model, most: usize) {
     }
 }
 
-/// The walk of the map is what should stand.
-fn check_walk(rt: &impl Abort, map: &IdOrdMap<'_, Stay>, model: &Model) -> Result<(), Fail>
+/// The walk of the map is what should stand, after the call that this number chose.
+fn check_walk(rt: &impl Abort, map: &IdOrdMap<'_, Stay>, model: &Model, x: u32) -> Result<(), Fail>
     requires sound { Sound by_berth_then_from (view map.now) }
 {
     let mut place: usize = 0;
     for key in 0..KEYS {
         let stay = model[key];
-        assert_eq!(rt; map.get(&at(4, key as u32)), stay);
+        assert_eq!(rt; map.get(&at(4, key as u32)), stay, "after {x}");
         if stay.is_some() {
-            assert_eq!(rt; map.iter(place), stay);
+            assert_eq!(rt; map.iter(place), stay, "after {x}");
             place = place.saturating_add(1);
         }
     }
-    assert_eq!(rt; map.iter(place), None);
-    assert_eq!(rt; map.len() as usize, place);
+    assert_eq!(rt; map.iter(place), None, "after {x}");
+    assert_eq!(rt; map.len() as usize, place, "after {x}");
     Ok(())
 }
 
@@ -214,8 +214,8 @@ fn a_long_run_keeps_to_the_array(rt: HostRuntime) -> Result<(), Fail> {
     let mut x = 7;
     for _ in 0..2000 {
         x = following(x);
-        make_one_call(&rt, &mut map, &mut model, x).note(format_args!("{x}"))?;
-        check_walk(&rt, &map, &model).note(format_args!("{x}"))?;
+        make_one_call(&rt, &mut map, &mut model, x)?;
+        check_walk(&rt, &map, &model, x)?;
     }
     Ok(())
 }
