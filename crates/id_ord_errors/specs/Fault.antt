@@ -1,8 +1,8 @@
 -- The number, the layer and the place of each fault of a map's parts.
 --     number_of fault, layer_of fault, place_of fault
 use Rattle.std.specs.Prelude.{ℕ}
-use Rattle.item_set.specs.Fault.{number_of as itemsNumber, place_of as itemsPlace}
-use Rattle.index_table.specs.Check.{number_of as tableNumber, place_of as tablePlace}
+use Rattle.item_set.specs.Fault.{number_of as items_number, place_of as items_place}
+use Rattle.index_table.specs.Check.{number_of as table_number, place_of as table_place}
 use Rattle.id_ord_errors.specs.declared.validation.Layer.{Layer}
 use Rattle.id_ord_errors.specs.declared.validation.Layer.TheVariants as layer
 use Rattle.id_ord_errors.specs.declared.validation.ValidationError.{ValidationError}
@@ -10,8 +10,8 @@ use Rattle.id_ord_errors.specs.declared.validation.ValidationError.TheVariants.{
 
 abbrev pub number_of : ValidationError → ℕ
 number_of (Size place) = 10
-number_of (Items fault) = itemsNumber fault
-number_of (Table fault) = tableNumber fault
+number_of (Items fault) = items_number fault
+number_of (Table fault) = table_number fault
 number_of (Order place) = 19
 
 abbrev pub layer_of : ValidationError → Layer
@@ -22,6 +22,6 @@ layer_of (Order place) = layer.Map
 
 abbrev pub place_of : ValidationError → ℕ
 place_of (Size place) = place
-place_of (Items fault) = itemsPlace fault
-place_of (Table fault) = tablePlace fault
+place_of (Items fault) = items_place fault
+place_of (Table fault) = table_place fault
 place_of (Order place) = place

@@ -1,6 +1,6 @@
 -- Each refusal as an answer of the map, with the values that it returns, and its number.
---     duplicated, no_room, not_inserted, not_entered, key_other, not_replaced, gone      the refusals as answers
---     number_of answer         the number of a refusal, 0 for any other answer
+--     duplicated, no_room, not_inserted, not_entered, key_other, not_replaced, gone    the refusals as answers
+--     number_of answer    the number of a refusal, 0 for any other answer
 use Rattle.std.specs.Prelude.{ℕ, Ok, Err, Result}
 use Rattle.item_set.specs.Refusal.{compact_number}
 use Rattle.item_set.specs.declared.compaction.CompactRefusal.{CompactRefusal}

@@ -1,6 +1,6 @@
 -- Orders by the numbers that make up a key, the first part first.
---     by_number a b                     how two numbers compare
---     lexicographic part parts x y     how two items compare: by a part, and where that is Equal by the parts after it
+--     by_number a b                   how two numbers compare
+--     lexicographic part parts x y    how two items compare: by a part, and where that is Equal by the parts after it
 use Rattle.std.specs.Prelude.{ℕ, cond, List, [], ◌∷◌, ◌==◌, nat_lt}
 use Rattle.std.specs.declared.cmp.Ordering.TheVariants.{Less, Equal, Greater}
 use Rattle.std.specs.declared.cmp.Ordering.{Ordering}

@@ -1,10 +1,10 @@
--- What compacting the slots and then rewriting the entries leaves is what shrink-to-fit does.
+-- What compacting the slots and then rewriting the entries leaves is what shrink_to_fit does.
 use Rattle.std.proofs.Common.{◌≡◌, ℕ, zero, suc, ◌+◌, ◌-◌, ◌≤◌, min, Bool, true, false, cond, not, eqb, ltb, List, [], ◌∷◌, ◌++◌, map, length, get_or, take, drop, replicate, Ok, Err, Result, Ordering, sym, refl, ap, ◌∙◌, ap₂, arith}
 use Rattle.std.proofs.lemmas.List.{length-append, length-take, get_or_append_left}
 use Rattle.std.proofs.lemmas.Bool.{cond-true, cond-false, lt-ltb, ne_eqb}
 use Rattle.item_set.proofs.Packing.{length_new_numbers, occupied_le}
 use Rattle.item_set.proofs.Slots.{occupied_below}
-use Rattle.item_set.specs.Compact.{new_numbers, packed, compact_answer, compacted_slots, compacted_scratch, compacted as compactedNumbers, renumbered as numberOr}
+use Rattle.item_set.specs.Compact.{new_numbers, packed, compact_answer, compacted_slots, compacted_scratch, compacted as compacted_numbers, renumbered as number_or}
 use Rattle.item_set.specs.Slots.{at, index_of, sentinel, occupied}
 use Rattle.item_set.specs.declared.compaction.CompactRefusal.{CompactRefusal}
 use Rattle.item_set.specs.declared.compaction.CompactRefusal.TheVariants.{Short}
@@ -53,7 +53,7 @@ module _ {T : Type 0} where
         let named : eqb (occupied (take n slots)) 4294967295 ≡ false = ne_eqb _ _ (λ e. omega arith) in
         ap (new_or d)
         (cond-true _ _ _ (lt-ltb n (min used (length filled)) (omega arith))
-        ∙ ap numberOr read ∙ cond-false _ _ _ named)
+        ∙ ap number_or read ∙ cond-false _ _ _ named)
 
     entries_moved : (es : List Index) (w : List T) → Names slots es w
         → map (renumbered (Permuted used) filled) es ≡ map (λ n. entry_of (index_of (occupied (take n slots)))) (map (λ entry. entry.0.0) es)
@@ -96,7 +96,7 @@ module _ {T : Type 0} {order : T → T → Ordering} (p : Parts T) (s : Sound or
         let free : length (live p) - occupied (live p) ≡ p.used - p.len = omega arith in
         moved _ _ ∙ ap (λ (k : ℕ). packed (live p) ++ (replicate k (Vacant sentinel) ++ drop p.used p.slots)) free
 
-    numbers_moved : compactedNumbers (numbers p) p.slots scratch ≡ numbers (compacted p)
+    numbers_moved : compacted_numbers (numbers p) p.slots scratch ≡ numbers (compacted p)
     numbers_moved = moved _ _ ∙ ap (λ (k : ℕ). record { used = k; len = k; free_head = sentinel }) s.store.count
 
     table_moved : rewritten p.table p.len remap (compacted_scratch (numbers p) p.slots scratch) ≡ (compacted p).table
@@ -110,7 +110,7 @@ module _ {T : Type 0} {order : T → T → Ordering} (p : Parts T) (s : Sound or
         → slots ≡ compacted_slots (numbers p) p.slots scratch
         → table ≡ rewritten p.table p.len remap after
         → after ≡ compacted_scratch (numbers p) p.slots scratch
-        → set ≡ compactedNumbers (numbers p) p.slots scratch
+        → set ≡ compacted_numbers (numbers p) p.slots scratch
         → Meets order (Call.shrink_to_fit (length scratch)) p (Answer.shrunk (Ok remap)) (parts slots table set)
     shrink_moves slots table after set is-slots is-table is-after is_set =
         let same : parts slots table set ≡ compacted p =

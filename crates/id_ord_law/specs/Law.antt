@@ -1,21 +1,21 @@
 -- The law over runs of calls.
---     Begins order c p items       what a run begins with: `new`, or parts that `adopt` accepts; c is the capacity
---     Reached order c p items      calls, one after the other, bring a map to the parts p and the machine to these items
---     Start                        how a run begins: by `new`, or by an accepted `adopt`
---     BeginsBy order c start p items    the parts and the items that a run begins with, for either start
---     ran order calls p            the parts that calls, made one after the other on the parts p, leave; the newest call comes first
---     stood order c calls items    the set that the same calls leave of these items
---     Ran order c p before calls q items      the calls bring the parts p to q, and the set before to these items
---     Onward order call p q        whatever calls led to p, the run with this call more leads to q
---     Walks order p items          the walk has the items in key order, each once
---     Names p                      each walk place names another slot, and together they name the occupied slots in use
---     SlotOf order k p n           n is the slot of the key of k: the one named by the place that gives its item
---     moved answer p n             where slot n is after a call with that answer
---     Keeps order answer p q before later      a key that stands before and after a call keeps its slot
---     SameWalk same xs ys          walks of one length, at every place of which `same` says yes
---     SameItems xs ys              the same items stand
---     heard answer                 an answer without what only the memory can say
---     RunLaw order same            what holds of every map that is reached
+--     Begins order c p items                 what a run begins with: `new`, or parts that `adopt` accepts; c is the capacity
+--     Reached order c p items                calls, one after the other, bring a map to the parts p and the machine to these items
+--     Start                                  how a run begins: by `new`, or by an accepted `adopt`
+--     BeginsBy order c start p items         the parts and the items that a run begins with, for either start
+--     ran order calls p                      the parts that calls, made one after the other on the parts p, leave; the newest call comes first
+--     stood order c calls items              the set that the same calls leave of these items
+--     Ran order c p before calls q items     the calls bring the parts p to q, and the set before to these items
+--     Onward order call p q                  whatever calls led to p, the run with this call more leads to q
+--     Walks order p items                    the walk has the items in key order, each once
+--     Names p                                each walk place names another slot, and together they name the occupied slots in use
+--     SlotOf order k p n                     n is the slot of the key of k: the one named by the place that gives its item
+--     moved answer p n                       where slot n is after a call with that answer
+--     Keeps order answer p q before later    a key that stands before and after a call keeps its slot
+--     SameWalk same xs ys                    walks of one length, at every place of which `same` says yes
+--     SameItems xs ys                        the same items stand
+--     heard answer                           an answer without what only the memory can say
+--     RunLaw order same                      what holds of every map that is reached
 use Rattle.std.specs.Prelude.{◌≡◌, ℕ, ◌<◌, Bool, true, List, [], ◌∷◌, length, Ok, Err}
 use Rattle.std.specs.declared.cmp.Ordering.TheVariants.{Equal}
 use Rattle.std.specs.declared.cmp.Ordering.{Ordering}
@@ -77,7 +77,7 @@ module _ {T : Type 0} where
   abbrev pub SlotOf : (T → T → Ordering) → T → Parts T → ℕ → Type 0
   SlotOf order k p n = ((i : ℕ) × ((i < p.len) × (name_at p i ≡ n))) × ((x : T) × (Holds p n x × (order k x ≡ Equal)))
 
-  -- only an accepted shrink-to-fit moves a slot
+  -- only an accepted shrink_to_fit moves a slot
   abbrev pub moved : Answered T → Parts T → ℕ → ℕ
   moved done p n = n
   moved none p n = n

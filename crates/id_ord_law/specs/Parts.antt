@@ -4,10 +4,10 @@
 --     parts slots table numbers    the same with the three numbers as the slot store keeps them
 --     numbers p                    these numbers
 --     live p, entries p            the slots in use, and the table entries in use
---     names p, name_at p i          the slots that the walk places name;  the one that place i names
+--     names p, name_at p i         the slots that the walk places name;  the one that place i names
 --     walk p                       the items that the walk places give, from the first on
 --     capacity p                   the least of the slots' length, the table's length and the limit
---     items_in slots                the items in some slots, in the order of the slots
+--     items_in slots               the items in some slots, in the order of the slots
 --     Holds p n x                  slot n is in use and holds x
 --     Sound order p                what a map's parts satisfy before and after every call
 use Rattle.std.specs.Prelude.{◌≡◌, ℕ, ◌≤◌, min, List, [], ◌∷◌, map, length, take, slice_index_or}

@@ -1,19 +1,19 @@
 -- The machine of standing items: a set of items, read by membership, and a capacity. It reads no slot and no table.
---     Rule T                         what a rule answers to an item, after the items that it was shown before
---     told verdict changed next s    the rule that these functions make from a state s
---     Call T                         the calls, each with what its arguments mean: a query is the item it means,
---                                    an entry or a RefMut the items it holds, the one taken first,
---                                    or-insert the copy that an occupied entry holds, none for a vacant one,
---                                    and shrink-to-fit the length of its scratch
---     Answer S R T                   what a call answers, with S for a slot and R for a compaction
---     Said T                         what the machine answers: it says nothing of slots and compactions
---     found order k items            the item that has the key of k, if there is one
---     stands order k items           whether there is one
---     without order k items          the items that have another key
---     placed_in order x items         x before the first item that is not Less
---     in_order order items            the items in key order
---     after order capacity call items     the set after a call
---     said order capacity call items      what the machine answers to a call
+--     Rule T                             what a rule answers to an item, after the items that it was shown before
+--     told verdict changed next s        the rule that these functions make from a state s
+--     Call T                             the calls, each with what its arguments mean: a query is the item it means,
+--                                        an entry or a RefMut the items it holds, the one taken first,
+--                                        or_insert the copy that an occupied entry holds, none for a vacant one,
+--                                        and shrink_to_fit the length of its scratch
+--     Answer S R T                       what a call answers, with S for a slot and R for a compaction
+--     Said T                             what the machine answers: it says nothing of slots and compactions
+--     found order k items                the item that has the key of k, if there is one
+--     stands order k items               whether there is one
+--     without order k items              the items that have another key
+--     placed_in order x items            x before the first item that is not Less
+--     in_order order items               the items in key order
+--     after order capacity call items    the set after a call
+--     said order capacity call items     what the machine answers to a call
 use Rattle.std.specs.Prelude.{ℕ, ◌-◌, Bool, cond, not, List, [], ◌∷◌, ◌++◌, length, is_some, Some, None, filter, Option, ◌==◌}
 use Rattle.std.specs.declared.cmp.Ordering.{Ordering}
 use Rattle.std.specs.Option.{option_map, unwrap_or}

@@ -1,13 +1,13 @@
 -- What each call answers and what it does to the parts of a map.
---     Answered T                   what a call answers: a slot by its number, a compaction as the slot store answers it
---     fresh p                      the slot that takes one more item: the free head, or the first slot not in use
---     add_at i x p                  the parts with x added, as the item at place i of the walk
---     remove_at i p                 the parts without the item at place i
---     write_at i x p                the parts with x in the slot of place i
---     new_number p n                how many occupied slots lie below slot n: the number that compacting gives it
---     compacted p                  the parts after a compaction that moves items
---     step order call p            the answer, and the parts after
---     Meets order call p answer q  the call, made on the parts p, answers so and leaves the parts q
+--     Answered T                     what a call answers: a slot by its number, a compaction as the slot store answers it
+--     fresh p                        the slot that takes one more item: the free head, or the first slot not in use
+--     add_at i x p                   the parts with x added, as the item at place i of the walk
+--     remove_at i p                  the parts without the item at place i
+--     write_at i x p                 the parts with x in the slot of place i
+--     new_number p n                 how many occupied slots lie below slot n: the number that compacting gives it
+--     compacted p                    the parts after a compaction that moves items
+--     step order call p              the answer, and the parts after
+--     Meets order call p answer q    the call, made on the parts p, answers so and leaves the parts q
 use Rattle.std.specs.Prelude.{◌≡◌, ℕ, suc, ◌+◌, ◌-◌, cond, List, [], ◌∷◌, ◌++◌, map, take, drop, replicate, Some, None, Ok, Err, Result, ◌==◌, nat_lt, slice_set}
 use Rattle.std.specs.declared.cmp.Ordering.{Ordering}
 use Rattle.std.specs.Option.{option_map, unwrap_or}

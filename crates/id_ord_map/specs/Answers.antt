@@ -1,13 +1,13 @@
 -- What the calls answer, as the definitions of the steps have it.
---     inserted r              `insert_unique`
---     overwritten r           `insert_overwrite`
---     removed r               `remove` and the pops
---     holds entry, entered r  what an entry holds, and `entry`
---     fresh item, Fresh r     a `RefMut` of an item that is not changed yet;  the `RefMut` that is answered, if one is, is such
---     made_mut r, made_entry r  the inserts of a vacant entry
---     or_made r                `or_insert`
---     replaced r, put_back r   the insert of an occupied entry, and `put_back`
---     taken_out r, took_mut r   `remove` and `into_mut` of an occupied entry
+--     inserted r                  `insert_unique`
+--     overwritten r               `insert_overwrite`
+--     removed r                   `remove` and the pops
+--     holds entry, entered r      what an entry holds, and `entry`
+--     fresh item, Fresh r         a `RefMut` of an item that is not changed yet;  the `RefMut` that is answered, if one is, is such
+--     made_mut r, made_entry r    the inserts of a vacant entry
+--     or_made r                   `or_insert`
+--     replaced r, put_back r      the insert of an occupied entry, and `put_back`
+--     taken_out r, took_mut r     `remove` and `into_mut` of an occupied entry
 use Rattle.std.specs.Prelude.{◌≡◌, Some, None, Ok, Err, Option, Result}
 use Rattle.id_ord_law.specs.Standing.Answer.{done, none, gave}
 use Rattle.id_ord_law.specs.Step.{Answered}

@@ -1,13 +1,13 @@
 -- What can be wrong with the parts of a map, and what `adopt` and `validate` make of it.
---     offered used len head p           the parts p with these three numbers
---     oversize capacity used count      the first of two numbers that is over the capacity
---     entries_fault order slots entries len      the first fault of the entries: the table's, or else of their order
---     map_fault order p count            the first fault of the parts p with `count` table entries, in the order of the tests
---     Accepts order p count answer      the answer is yes exactly where the parts are sound and `count` is how many items they have
---     adopted order p count before      the parts that `adopt` leaves: those offered, or where they have a fault those before
---     Begun order p answer              where the answer is yes, a run begins with the parts p and the items in their occupied slots
---     vacant_slots p                     how many slots in use are vacant
---     compactness_fault compactness p    the fault that some slots in use are vacant, where that is refused
+--     offered used len head p                  the parts p with these three numbers
+--     oversize capacity used count             the first of two numbers that is over the capacity
+--     entries_fault order slots entries len    the first fault of the entries: the table's, or else of their order
+--     map_fault order p count                  the first fault of the parts p with `count` table entries, in the order of the tests
+--     Accepts order p count answer             the answer is yes exactly where the parts are sound and `count` is how many items they have
+--     adopted order p count before             the parts that `adopt` leaves: those offered, or where they have a fault those before
+--     Begun order p answer                     where the answer is yes, a run begins with the parts p and the items in their occupied slots
+--     vacant_slots p                           how many slots in use are vacant
+--     compactness_fault compactness p          the fault that some slots in use are vacant, where that is refused
 use Rattle.std.specs.Prelude.{◌≡◌, ℕ, ◌-◌, cond, List, length, take, is_some, Some, None, Ok, Err, Option, Result, nat_lt}
 use Rattle.std.specs.declared.cmp.Ordering.{Ordering}
 use Rattle.std.specs.Option.{option_map, option_or}

@@ -1,7 +1,7 @@
 -- What the rule on stays that begin before a minute answers.
---     begins_before rule stay     keep a stay that begins before the rule's minute, and remove any other
+--     begins_before rule stay    keep a stay that begins before the rule's minute, and remove any other
 --     marked rule stay           the stay with the rule's end; the one that begins at the minute `moved` begins at `moved_to`
---     shown_to rule stay          the rule after one stay more was shown to it
+--     shown_to rule stay         the rule after one stay more was shown to it
 use Rattle.std.specs.Prelude.{cond, ◌==◌, nat_lt}
 use Rattle.id_ord_item.specs.declared.rule.Verdict.{Verdict}
 use Rattle.id_ord_item.specs.declared.rule.Verdict.TheVariants.{Keep, Remove}

@@ -1,12 +1,12 @@
 -- The faults of a table's entries, each at the first place that has it.
---     first_place test n k           the first of n places from k on that passes a test
---     repeats entries k             the entry at place k names the slot of an earlier one
---     nameless slots entries k      the entry at place k names no item
---     followed order before x       x is Greater than the item before it, if there is one
---     comes_after order before here  the same of the item here, if there is one
---     unordered order slots entries k      the item at place k is not Greater than the one at the place before
---     table_fault slots entries len  the first fault of the entries, where there are to be len of them
---     first_unordered order slots entries   the first place whose item is not Greater than the one before
+--     first_place test n k                   the first of n places from k on that passes a test
+--     repeats entries k                      the entry at place k names the slot of an earlier one
+--     nameless slots entries k               the entry at place k names no item
+--     followed order before x                x is Greater than the item before it, if there is one
+--     comes_after order before here          the same of the item here, if there is one
+--     unordered order slots entries k        the item at place k is not Greater than the one at the place before
+--     table_fault slots entries len          the first fault of the entries, where there are to be len of them
+--     first_unordered order slots entries    the first place whose item is not Greater than the one before
 --     number_of fault, place_of fault        the number and the place of a fault
 use Rattle.std.specs.Prelude.{ℕ, zero, suc, ◌-◌, Bool, true, false, cond, not, List, [], ◌∷◌, length, take, Some, None, Option, ◌==◌, slice_index_or}
 use Rattle.std.specs.declared.cmp.Ordering.{Ordering}

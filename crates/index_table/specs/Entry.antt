@@ -1,7 +1,7 @@
 -- Table entries.
---     entry_of i             the entry that names slot i
---     made i                what becomes of the making of an entry
---     refusal_number r       the number of a refusal
+--     entry_of i          the entry that names slot i
+--     made i              what becomes of the making of an entry
+--     refusal_number r    the number of a refusal
 use Rattle.std.specs.Prelude.{ℕ, cond, Ok, Err, Result, ◌==◌}
 use Rattle.item_set.specs.declared.index.ItemIndex.{ItemIndex}
 use Rattle.index_table.specs.declared.entry.Index.{Index}

@@ -1,9 +1,9 @@
 -- Looking for a place, by how what is looked for compares with each place.
---     Falling answers n             of the first n places: before one that is not Less, all are Greater
---     Sought answers n r            r is the first of the first n places that is not Greater: Ok if it is Equal, else Err
---     asked ask slot                how what is looked for compares with a slot's item; with a vacant slot, Less
---     answers_of ask slots entries   the same for the slot that each entry names
---     HasKey ask slots entries i    an entry names slot i, and what is looked for is Equal to its item
+--     Falling answers n               of the first n places: before one that is not Less, all are Greater
+--     Sought answers n r              r is the first of the first n places that is not Greater: Ok if it is Equal, else Err
+--     asked ask slot                  how what is looked for compares with a slot's item; with a vacant slot, Less
+--     answers_of ask slots entries    the same for the slot that each entry names
+--     HasKey ask slots entries i      an entry names slot i, and what is looked for is Equal to its item
 use Rattle.std.specs.Prelude.{◌≡◌, ℕ, ◌<◌, ◌≤◌, List, map, length, Ok, Err, Result, ◌≢◌, slice_index_or}
 use Rattle.std.specs.declared.cmp.Ordering.TheVariants.{Less, Equal, Greater}
 use Rattle.std.specs.declared.cmp.Ordering.{Ordering}

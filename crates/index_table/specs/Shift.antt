@@ -1,8 +1,8 @@
 -- The table after a place was opened or closed, or its entries rewritten.
---     opened table len place e      the first len entries with e at a place, those from it on one higher
---     closed table len place        the first len entries without a place, those after it one lower
---     renumbered remap scratch e    the entry with its slot's new number, where it has one
---     rewritten table len remap scratch      the first len entries, each with its slot's new number
+--     opened table len place e             the first len entries with e at a place, those from it on one higher
+--     closed table len place               the first len entries without a place, those after it one lower
+--     renumbered remap scratch e           the entry with its slot's new number, where it has one
+--     rewritten table len remap scratch    the first len entries, each with its slot's new number
 use Rattle.std.specs.Prelude.{ℕ, ◌+◌, ◌-◌, cond, ◌&&◌, List, ◌++◌, map, length, take, drop, Ok, Err, Result, nat_le, nat_lt}
 use Rattle.std.specs.List.{insert, remove}
 use Rattle.item_set.specs.Compact.{remapped}

@@ -1,12 +1,12 @@
 -- What table entries name among slots, and the order of what they name.
---     slot_at entries k              the slot that the entry at place k names, if there is such a place
---     seen slots e                  the slot that an entry names; a vacant one if there is none
---     walk slots entries            the items that the entries name, from the first entry on
---     Named slots entries           each entry names an item
---     Below order x ys              x is Less than each of ys
---     Ascending order xs            each item is Less than all that come after it
---     smaller order x ys            how many of ys are Less than x
---     slot_of order x slots entries  the slot, named by an entry, whose item is Equal to x, if there is one
+--     slot_at entries k                the slot that the entry at place k names, if there is such a place
+--     seen slots e                     the slot that an entry names; a vacant one if there is none
+--     walk slots entries               the items that the entries name, from the first entry on
+--     Named slots entries              each entry names an item
+--     Below order x ys                 x is Less than each of ys
+--     Ascending order xs               each item is Less than all that come after it
+--     smaller order x ys               how many of ys are Less than x
+--     slot_of order x slots entries    the slot, named by an entry, whose item is Equal to x, if there is one
 use Rattle.std.specs.Prelude.{◌≡◌, ℕ, zero, suc, List, [], ◌∷◌, map, Some, None, Option}
 use Rattle.std.specs.declared.cmp.Ordering.TheVariants.{Less, Equal, Greater}
 use Rattle.std.specs.declared.cmp.Ordering.{Ordering}

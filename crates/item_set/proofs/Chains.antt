@@ -1,6 +1,6 @@
 -- The chain of free slots after one slot is written.
 use Rattle.std.proofs.Common.{◌≡◌, ℕ, zero, suc, ◌<◌, ◌≤◌, List, [], ◌∷◌, length, set, Some, sym, refl, ap, ◌∙◌, arith}
-use Rattle.std.specs.List.{AllByRecursion as All}
+use Rattle.std.specs.List.{AllByRecursion}
 use Rattle.std.proofs.lemmas.Bool.{cond-true, lt-ltb}
 use Rattle.item_set.specs.Chain.{Chain}
 use Rattle.item_set.specs.Slots.{at, next_free, free_next, vacant_next, occupied, counted}
@@ -28,7 +28,7 @@ module _ {T : Type 0} (slots : List (ItemSlot T)) where
       let rest = chain_same cs ds (next_free (at slots x)) c.3 (rw same d.3) in cc
 
   -- so a slot does not come again after it
-  again : (c : ℕ) (cs : List ℕ) → Chain slots (next_free (at slots c)) cs → (es : List ℕ) (head : ItemIndex) → Chain slots head es → length es ≤ length cs → All (λ d. d ≡ c → ⊥) es
+  again : (c : ℕ) (cs : List ℕ) → Chain slots (next_free (at slots c)) cs → (es : List ℕ) (head : ItemIndex) → Chain slots head es → length es ≤ length cs → AllByRecursion (λ d. d ≡ c → ⊥) es
   again c cs from [] head chain le = tt
   again c cs from (e ∷ es) head chain le = (
     (λ same. let there : Chain slots (next_free (at slots c)) es = rw (← same) chain.3 in
@@ -36,11 +36,11 @@ module _ {T : Type 0} (slots : List (ItemSlot T)) where
     again c cs from es (next_free (at slots e)) chain.3 (omega arith),
   )
 
-  pub chain_apart : (c : ℕ) (cs : List ℕ) → Chain slots (next_free (at slots c)) cs → All (λ d. d ≡ c → ⊥) cs
+  pub chain_apart : (c : ℕ) (cs : List ℕ) → Chain slots (next_free (at slots c)) cs → AllByRecursion (λ d. d ≡ c → ⊥) cs
   chain_apart c cs from = again c cs from cs (next_free (at slots c)) from (omega arith)
 
   -- no slot of the chain holds an item
-  pub chain_vacant : (cs : List ℕ) (head : ItemIndex) → Chain slots head cs → (n : ℕ) (x : T) → at slots n ≡ Occupied x → All (λ d. d ≡ n → ⊥) cs
+  pub chain_vacant : (cs : List ℕ) (head : ItemIndex) → Chain slots head cs → (n : ℕ) (x : T) → at slots n ≡ Occupied x → AllByRecursion (λ d. d ≡ n → ⊥) cs
   chain_vacant [] head chain n x holds = tt
   chain_vacant (c ∷ cs) head chain n x holds = (
     (λ same. let there = ap (at slots) same in let v = (vacant_below slots c (next_free (at slots c)) chain.2).1 in let z : ◌≡◌ {A = ℕ} 0 1 = cc in omega arith),
@@ -49,7 +49,7 @@ module _ {T : Type 0} (slots : List (ItemSlot T)) where
 
 -- the chain goes by its own slots only
 module _ {T : Type 0} (slots slots' : List (ItemSlot T)) (n : ℕ) (long : length slots ≤ length slots') (keep : (k : ℕ) → (k ≡ n → ⊥) → at slots' k ≡ at slots k) where
-  pub chain_kept : (cs : List ℕ) (head : ItemIndex) → All (λ d. d ≡ n → ⊥) cs → Chain slots head cs → Chain slots' head cs
+  pub chain_kept : (cs : List ℕ) (head : ItemIndex) → AllByRecursion (λ d. d ≡ n → ⊥) cs → Chain slots head cs → Chain slots' head cs
   chain_kept [] head apart chain = chain
   chain_kept (c ∷ cs) head apart chain =
       let e = keep c apart.0 in

@@ -2,7 +2,7 @@
 use Rattle.std.proofs.Common.{◌≡◌, ℕ, ◌+◌, ◌-◌, ◌<◌, ◌≤◌, List, [], ◌∷◌, ◌++◌, length, set, Some, sym, refl, ap, ◌∙◌, subst, arith}
 use lib.Seq.{take-set-lt}
 use Rattle.std.proofs.lemmas.List.{length-set, length-take, length_push, get_or-set_same, get_or-set_other, take_more_set}
-use Rattle.std.specs.List.{AllByRecursion as All}
+use Rattle.std.specs.List.{AllByRecursion}
 use Rattle.item_set.specs.Chain.{Chain, SoundSet}
 use Rattle.item_set.specs.Slots.{at, index_of, sentinel, next_free, vacant_next, occupied}
 use Rattle.item_set.specs.Store.{in_use}
@@ -63,7 +63,7 @@ module _ {T : Type 0} (numbers : ItemSet) (slots : List (ItemSlot T)) (sound : S
           let l = length-take numbers.used slots in let k = length-set live h (Occupied x) in
           let goes : next_free (at live c) ≡ next = ap (λ (m : ℕ). next_free (at live m)) (sym here) ∙ ap next_free v.1 in
           let rest : Chain live next cs = subst (λ (i : ItemIndex). Chain live i cs) goes linked.3 in
-          let apart : All (λ d. d ≡ h → ⊥) cs = subst (λ (m : ℕ). All (λ d. d ≡ m → ⊥) cs) (sym here) (chain_apart live c cs linked.3) in
+          let apart : AllByRecursion (λ d. d ≡ h → ⊥) cs = subst (λ (m : ℕ). AllByRecursion (λ d. d ≡ m → ⊥) cs) (sym here) (chain_apart live c cs linked.3) in
           let o = occupied_in live h x next v.0 v.1 in let d = sound.count in
           sound_from _ _ (set live h (Occupied x)) (take-set-lt numbers.used slots h (Occupied x) (omega arith)) (omega arith) cs
           (chain_kept live (set live h (Occupied x)) h (omega arith) (set_keeps live h (Occupied x)) cs next apart rest) (omega arith)

@@ -1,9 +1,9 @@
 -- The chain of free slots, and the first fault of a store's parts.
---     Chain slots head free            from head on, the chain visits the slots `free`, each vacant, and ends
---     SoundSet numbers slots           the items are counted by `len`, and the chain visits as many slots as are vacant
---     follow slots left met head       the fault of the chain from head on, where `left` vacant slots are still to be met and `met` were
---     first_fault numbers slots         the first fault of the parts, if there is one
---     unless fault                     accepted, or refused with the fault
+--     Chain slots head free         from head on, the chain visits the slots `free`, each vacant, and ends
+--     SoundSet numbers slots        the items are counted by `len`, and the chain visits as many slots as are vacant
+--     follow slots left met head    the fault of the chain from head on, where `left` vacant slots are still to be met and `met` were
+--     first_fault numbers slots     the first fault of the parts, if there is one
+--     unless fault                  accepted, or refused with the fault
 use Rattle.std.specs.Prelude.{◌≡◌, ℕ, zero, suc, ◌+◌, ◌-◌, ◌<◌, cond, List, [], ◌∷◌, length, Some, None, Ok, Err, Option, Result, ◌==◌, nat_lt}
 use Rattle.item_set.specs.Slots.{at, index_of, sentinel, next_free, vacant_next, occupied}
 use Rattle.item_set.specs.Store.{in_use}

@@ -1,11 +1,11 @@
 -- What it is for a store to have no vacant slot, and what compacting answers and leaves.
---     compact_fault compactness numbers      the fault that some slots in use are vacant, where that is refused
---     new_numbers n slots                    each slot's new number, counted from n on: SENTINEL for a vacant one
---     packed slots                          the slots that hold an item, in their order
---     moves numbers scratch                 whether compacting moves anything
+--     compact_fault compactness numbers    the fault that some slots in use are vacant, where that is refused
+--     new_numbers n slots                  each slot's new number, counted from n on: SENTINEL for a vacant one
+--     packed slots                         the slots that hold an item, in their order
+--     moves numbers scratch                whether compacting moves anything
 --     compact_answer, compacted_slots, compacted_scratch, compacted
 --                                           what `compact` answers, and the slots, the scratch and the numbers after it
---     remapped remap scratch i              what `remap` answers
+--     remapped remap scratch i             what `remap` answers
 use Rattle.std.specs.Prelude.{ℕ, suc, ◌-◌, min, Bool, false, cond, not, List, [], ◌∷◌, ◌++◌, length, drop, replicate, Some, None, Ok, Err, Option, Result, ◌==◌, nat_lt, slice_index_or}
 use Rattle.item_set.specs.Slots.{index_of, sentinel, occupied}
 use Rattle.item_set.specs.Store.{in_use}

@@ -1,10 +1,10 @@
 -- What a list of slots holds.
---     index_of n, sentinel      n as the number of a slot;  the number that names no slot
---     at slots n               slot n, and past the end a vacant one that names no other
---     held slot                the item in a slot, if it holds one
---     next_free slot            the next free slot that a vacant slot names
---     vacant_next slots n       the same of slot n, if there is such a slot and it is vacant
---     occupied slots           how many of the slots hold an item
+--     index_of n, sentinel    n as the number of a slot;  the number that names no slot
+--     at slots n              slot n, and past the end a vacant one that names no other
+--     held slot               the item in a slot, if it holds one
+--     next_free slot          the next free slot that a vacant slot names
+--     vacant_next slots n     the same of slot n, if there is such a slot and it is vacant
+--     occupied slots          how many of the slots hold an item
 use Rattle.std.specs.Prelude.{ℕ, suc, cond, List, [], ◌∷◌, length, Some, None, Option, nat_lt, slice_index_or}
 use Rattle.item_set.specs.declared.index.ItemIndex.{ItemIndex}
 use Rattle.item_set.specs.declared.slot.ItemSlot.{ItemSlot}

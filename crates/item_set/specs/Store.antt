@@ -1,15 +1,15 @@
 -- What a slot store has in use, and what its calls answer and leave.
---     in_use numbers slots            the slots in use: the first `used` of them
---     held_in numbers slots i         the item in slot i, if the slot is in use and holds one
---     none_free numbers               whether the chain of free slots is empty
---     end_index numbers slots         the first slot that is not in use, if there is one
---     head_index numbers slots        the free head, if it is a vacant slot in use
---     next_index numbers slots        the slot that takes one more item, if there is one
---     put_at i slot slots             the slots with a slot written at i, if there is an i
---     insert_answer, inserted_slots, inserted      what `insert` answers, and the slots and the numbers after it
---     removed_slots, removed                      the slots and the numbers after `remove`
---     replace_answer, replaced_slots               what `replace` answers, and the slots after it
---     cleared                        the numbers of a store in which no slot is in use
+--     in_use numbers slots                       the slots in use: the first `used` of them
+--     held_in numbers slots i                    the item in slot i, if the slot is in use and holds one
+--     none_free numbers                          whether the chain of free slots is empty
+--     end_index numbers slots                    the first slot that is not in use, if there is one
+--     head_index numbers slots                   the free head, if it is a vacant slot in use
+--     next_index numbers slots                   the slot that takes one more item, if there is one
+--     put_at i slot slots                        the slots with a slot written at i, if there is an i
+--     insert_answer, inserted_slots, inserted    what `insert` answers, and the slots and the numbers after it
+--     removed_slots, removed                     the slots and the numbers after `remove`
+--     replace_answer, replaced_slots             what `replace` answers, and the slots after it
+--     cleared                                    the numbers of a store in which no slot is in use
 use Rattle.std.specs.Prelude.{◌+◌, ◌-◌, min, Bool, cond, List, length, take, is_some, Some, None, Option, Result, ◌==◌, nat_lt, slice_set}
 use Rattle.std.specs.Option.{ok_or}
 use Rattle.item_set.specs.Slots.{at, held, index_of, sentinel, next_free, vacant_next}

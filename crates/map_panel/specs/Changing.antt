@@ -1,6 +1,6 @@
 -- Changes of a board's items as calls of its map.
---     call_of meant change      the call that a change makes; meant is the item that a query means
---     answered changed         what the map answered, where this became of a change
+--     call_of meant change    the call that a change makes; meant is the item that a query means
+--     answered changed        what the map answered, where this became of a change
 use Rattle.id_ord_errors.specs.Refusal.{not_inserted}
 use Rattle.id_ord_law.specs.Standing.{Call}
 use Rattle.id_ord_law.specs.Standing.Answer.{done, none, gave}

@@ -1,6 +1,6 @@
 -- What is seen of a board.
---     seen_item item                what is seen where an item is looked for
---     seen order meant look p      what a look at the parts p sees; meant is the item that a query means
+--     seen_item item             what is seen where an item is looked for
+--     seen order meant look p    what a look at the parts p sees; meant is the item that a query means
 use Rattle.std.specs.Prelude.{◌-◌, Some, None, Option}
 use Rattle.std.specs.declared.cmp.Ordering.{Ordering}
 use Rattle.std.specs.List.{slice_get}

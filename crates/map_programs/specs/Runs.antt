@@ -1,11 +1,11 @@
 -- The calls that some runs make, the newest first.
 --     looks_up k held x             a look for a key, and `or_insert` of x through the entry, which holds what was found
---     shrinks_and_clears scratch     a shrinking with so long a scratch, and a clearing
---     adds x y                     x is added, and y takes the place of the item with its key or is added
---     adds_by_entry x y              x and y are added through vacant entries, one by `insert` and one by `insert_entry`
---     works_by_entry e f x           x takes the place of the item with the key of the entry e, that item is taken out,
---                                  and the one with the key of the entry f is taken for a change
---     puts_back_and_keeps m rule      m is put back, and the items that a rule keeps are kept
+--     shrinks_and_clears scratch    a shrinking with so long a scratch, and a clearing
+--     adds x y                      x is added, and y takes the place of the item with its key or is added
+--     adds_by_entry x y             x and y are added through vacant entries, one by `insert` and one by `insert_entry`
+--     works_by_entry e f x          x takes the place of the item with the key of the entry e, that item is taken out,
+--                                   and the one with the key of the entry f is taken for a change
+--     puts_back_and_keeps m rule    m is put back, and the items that a rule keeps are kept
 --     takes_out k                   the item with a key, then the first and the last item are taken out
 --     every_call ..                 all of these, in this order
 use Rattle.std.specs.Prelude.{ℕ, List, [], ◌∷◌, ◌++◌, Option}

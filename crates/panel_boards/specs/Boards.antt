@@ -1,20 +1,20 @@
 -- Boards: small examples on stays, each worked through the definitions of what the map's calls do.
---     stay_of vessel berth from     the stay of a vessel at a berth from a minute on
+--     stay_of vessel berth from    the stay of a vessel at a berth from a minute on
 --     stay berth from              the same for vessel 0
 --     empty n                      a map just made, over n slots and n table entries
 --     does call p                  the answer of a call on the parts p, and the parts that it leaves
 --     single                       a map of capacity 1 that holds the stay (4,540)
 --     B                            the inserts of the stays (4,540), (2,600) and (4,530), the newest first, as in every run
---     on_b calls                    the parts that B and then these calls leave, over 4 slots and 4 entries
+--     on_b calls                   the parts that B and then these calls leave, over 4 slots and 4 entries
 --     refilled                     the parts that B leaves after removing (2,600) and inserting (1,1)
 --     alone                        the parts that B leaves after removing (4,540), then (2,600): one item, in slot 2
 --     pair                         the parts that B leaves after removing (4,540): two items, in the slots 1 and 2
 --     scratch                      a scratch of 3 places, each with a 9 in it
 --     numbered p                   that scratch after the compaction of the parts p
---     shrinks p                    what a shrink-to-fit with that scratch answers on the parts p, and the parts that it leaves
---     keep_first n                  what the rule KeepFirst of n answers
+--     shrinks p                    what a shrink_to_fit with that scratch answers on the parts p, and the parts that it leaves
+--     keep_first n                 what the rule KeepFirst of n answers
 --     kept                         the parts that B leaves after retaining by KeepFirst of 1
---     move_and_remove                a rule that gives every stay another key and says to remove it
+--     move_and_remove              a rule that gives every stay another key and says to remove it
 --     Boards                       what the boards show
 use Rattle.std.specs.Prelude.{◌≡◌, ℕ, ◌-◌, List, [], ◌∷◌, ◌++◌, length, take, replicate, None, Ok, Err}
 use Rattle.std.specs.List.{slice_get}

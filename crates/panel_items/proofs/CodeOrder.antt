@@ -3,7 +3,7 @@ use Rattle.std.proofs.Common.{◌≡◌, ℕ, zero, suc, ◌+◌, ◌-◌, ◌*�
 use Rattle.std.specs.Cmp.Lexicographic.{slice_cmp}
 use Rattle.std.specs.Ordering.{ordering_then, nat_cmp}
 use Rattle.std.specs.Int.Digits.{number_from_digits_after, AllBelowBase}
-use Rattle.std.specs.List.{AllByRecursion as All}
+use Rattle.std.specs.List.{AllByRecursion}
 use Rattle.std.proofs.ByRecursion.{All-append, All-weaker}
 use Rattle.std.proofs.lemmas.List.{length-append, length-replicate}
 use Rattle.std.proofs.lemmas.Bool.Decides.{nat_tests}
@@ -41,7 +41,7 @@ zeros_order (suc a) zero e = absurd (omega arith)
 zeros_order (suc a) (suc b) e = zeros_order a b (omega arith)
 
 -- zeros after two texts, up to one length, leave their order
-pad_order : (xs ys : List ℕ) (a b : ℕ) → length xs + a ≡ length ys + b → All (λ x. 0 < x) xs → All (λ y. 0 < y) ys → slice_cmp nat_cmp (xs ++ replicate a 0) (ys ++ replicate b 0) ≡ slice_cmp nat_cmp xs ys
+pad_order : (xs ys : List ℕ) (a b : ℕ) → length xs + a ≡ length ys + b → AllByRecursion (λ x. 0 < x) xs → AllByRecursion (λ y. 0 < y) ys → slice_cmp nat_cmp (xs ++ replicate a 0) (ys ++ replicate b 0) ≡ slice_cmp nat_cmp xs ys
 pad_order [] [] a b e p q = zeros_order a b (omega arith)
 pad_order [] (y ∷ ys) zero b e p q = absurd (omega arith)
 pad_order [] (y ∷ ys) (suc a) b e p q =
@@ -65,7 +65,7 @@ padded_under letters typed =
 padded_length : (letters : List ℕ) → Typed letters → length (padded letters) ≡ 8
 padded_length letters typed = simp (length-append, length-replicate) (omega arith)
 
-above_zero : (letters : List ℕ) → Typed letters → All (λ l. 0 < l) letters
+above_zero : (letters : List ℕ) → Typed letters → AllByRecursion (λ l. 0 < l) letters
 above_zero letters typed = All-weaker (λ l. (0 < l) × (l < 256)) (λ l. 0 < l) (λ l h. h.0) letters typed.1
 
 pub codes_in_text_order : CodesInTextOrder

@@ -1,6 +1,6 @@
 -- The code that letters mean.
 --     padded letters     the letters, and zeros after them up to eight
---     code_of letters     the number that these eight write in base 256, the first letter highest
+--     code_of letters    the number that these eight write in base 256, the first letter highest
 use Rattle.std.specs.Prelude.{ℕ, ◌-◌, List, ◌++◌, length, replicate}
 use Rattle.std.specs.Int.Digits.{number_from_digits}
 

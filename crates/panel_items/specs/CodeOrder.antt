@@ -3,13 +3,13 @@
 --     CodesInTextOrder     the codes of two such texts compare as the texts do: by the first letters that differ, and a text before any that continues it
 use Rattle.std.specs.Prelude.{◌≡◌, ℕ, ◌<◌, ◌≤◌, List, length}
 use Rattle.std.specs.Cmp.Lexicographic.{slice_cmp}
-use Rattle.std.specs.List.{AllByRecursion as All}
+use Rattle.std.specs.List.{AllByRecursion}
 use Rattle.id_ord_item.specs.Lexicographic.{by_number}
 use Rattle.panel_items.specs.Code.{code_of}
 use Rattle.std.specs.Ordering.{nat_cmp}
 
 abbrev pub Typed : List ℕ → Type 0
-Typed letters = (length letters ≤ 8) × All (λ letter. (0 < letter) × (letter < 256)) letters
+Typed letters = (length letters ≤ 8) × AllByRecursion (λ letter. (0 < letter) × (letter < 256)) letters
 
 abbrev pub CodesInTextOrder : Type 0
 CodesInTextOrder = (xs ys : List ℕ) → Typed xs → Typed ys → by_number (code_of xs) (code_of ys) ≡ slice_cmp nat_cmp xs ys

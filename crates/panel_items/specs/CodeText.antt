@@ -1,7 +1,7 @@
 -- What a text of a code holds and means, and how it is filled.
 --     letters_of text                   the letters that it holds
 --     fill_answer letters               Ok for at most eight letters, and refused as Long for more
---     letters_after_fill old letters     what it holds after a call to fill: the letters if at most eight, and the old ones otherwise
+--     letters_after_fill old letters    what it holds after a call to fill: the letters if at most eight, and the old ones otherwise
 --     sailing_meant text                the sailing looked for: the code of its letters, due at berth 0 at minute 0
 use Rattle.std.specs.Prelude.{ℕ, cond, List, length, Ok, Err, Result, nat_le}
 use Rattle.panel_items.specs.Code.{code_of}

@@ -1,6 +1,6 @@
 -- How stays compare.
---     by_berth_then_from x y     how two stays compare by key: by berth, and where that is Equal by the minute they begin
---     same_stay x y            whether two stays agree in every field
+--     by_berth_then_from x y    how two stays compare by key: by berth, and where that is Equal by the minute they begin
+--     same_stay x y             whether two stays agree in every field
 use Rattle.std.specs.Prelude.{Bool, ◌&&◌, [], ◌∷◌, ◌==◌}
 use Rattle.std.specs.declared.cmp.Ordering.{Ordering}
 use Rattle.id_ord_item.specs.Lexicographic.{lexicographic}

@@ -1,7 +1,7 @@
 -- The largest of the items passed so far, and the steps of a loop that looks for the largest of all.
 use Rattle.std.proofs.Common.{◌≡◌, ℕ, ◌+◌, ◌<◌, true, false, List, length, get_or, take, Ordering, Less, Equal, Greater, sym, refl, ap, ◌∙◌, subst}
 use Rattle.std.specs.Ordering.{is_gt}
-use Rattle.std.specs.List.{ContainsAt as Has, AllByRecursion as All}
+use Rattle.std.specs.List.{ContainsAt as Has, AllByRecursion}
 use Rattle.std.proofs.ByRecursion.{All-more, All-weaker, has_get_or}
 use Rattle.std.proofs.lemmas.Bool.{true≢false}
 use Rattle.id_ord_item.specs.Order.{LawfulOrder}
@@ -10,7 +10,7 @@ use Rattle.panel_items_tests.specs.EveryKind.{NotAbove}
 
 -- best is one of the items, and none of the first n is Greater
 abbrev pub Top : {T : Type 0} → (T → T → Ordering) → List T → ℕ → T → Type 0
-Top order items n best = Has items best × All (NotAbove order best) (take n items)
+Top order items n best = Has items best × AllByRecursion (NotAbove order best) (take n items)
 
 is_greater : (o : Ordering) → is_gt o ≡ true → o ≡ Greater
 is_greater Less h = absurd (true≢false (sym h))

@@ -1,6 +1,6 @@
 -- How buoys compare.
---     by_zone_number_light x y     how two buoys compare by key: by zone, then by number, then by light
---     same_buoy x y              whether two buoys agree in every field
+--     by_zone_number_light x y    how two buoys compare by key: by zone, then by number, then by light
+--     same_buoy x y               whether two buoys agree in every field
 use Rattle.std.specs.Prelude.{Bool, ◌&&◌, [], ◌∷◌, ◌==◌}
 use Rattle.std.specs.declared.cmp.Ordering.{Ordering}
 use Rattle.id_ord_item.specs.Lexicographic.{lexicographic}

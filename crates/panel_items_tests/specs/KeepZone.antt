@@ -1,6 +1,6 @@
 -- What the rule on a zone's buoys answers.
---     in_zone rule buoy      keep a buoy of the rule's zone, and remove any other
---     painted rule buoy     a buoy of the rule's zone in the rule's colour, and any other unchanged
+--     in_zone rule buoy    keep a buoy of the rule's zone, and remove any other
+--     painted rule buoy    a buoy of the rule's zone in the rule's colour, and any other unchanged
 use Rattle.std.specs.Prelude.{cond, ◌==◌}
 use Rattle.id_ord_item.specs.declared.rule.Verdict.{Verdict}
 use Rattle.id_ord_item.specs.declared.rule.Verdict.TheVariants.{Keep, Remove}

@@ -1,7 +1,7 @@
 -- One item more is passed, and at the end all are.
 use Rattle.std.proofs.Common.{◌≡◌, ◌+◌, sym, ◌∙◌, subst}
 use Rattle.std.specs.Ordering.{is_gt}
-use Rattle.std.specs.List.{AllByRecursion as All}
+use Rattle.std.specs.List.{AllByRecursion}
 use Rattle.std.proofs.lemmas.List.{take_all}
 use Rattle.panel_items_tests.proofs.Top.{Top, top_stays, top_moves}
 use Rattle.panel_items_tests.proofs.every_kind.largest.Goals as goal
@@ -26,4 +26,4 @@ loop-item-preserved g c =
 pub returns : goal.returns
 returns g c =
     let all = take_all c.loop-item.item-index c.args.items.now c.loop-item-test.false in
-    (c.loop-item.invariant.0, subst (All _) all c.loop-item.invariant.1)
+    (c.loop-item.invariant.0, subst (AllByRecursion _) all c.loop-item.invariant.1)
