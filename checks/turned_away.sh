@@ -5,15 +5,14 @@ set -eu
 here=$(cd "$(dirname "$0")/.." && pwd)
 room=$(mktemp -d)
 trap 'rm -rf "$room"' EXIT
-cp -R "$here/crates" "$here/crates.txt" "$room/"
-[ -d "$here/target" ] && cp -R "$here/target" "$room/target"
+(cd "$here" && tar -cf - --exclude=out crates crates.txt) | tar -xf - -C "$room"
 twin=crates/map_programs/src/entry_programs.rt
 
 turned_away() { # NAME OLD NEW MESSAGE
     cp "$here/$twin" "$room/$twin"
     grep -qF -- "$2" "$room/$twin" || { echo "$1: the good twin has changed"; exit 1; }
     OLD=$2 NEW=$3 awk '{ at = index($0, ENVIRON["OLD"]); if (at) $0 = substr($0, 1, at - 1) ENVIRON["NEW"] substr($0, at + length(ENVIRON["OLD"])); print }' "$here/$twin" >"$room/$twin"
-    (cd "$room" && rt dev map_programs) >"$room/log" 2>&1 || true
+    (cd "$room/crates/map_programs" && rt check) >"$room/log" 2>&1 || true
     if [ "$(grep -c ': error' "$room/log")" -eq 1 ] && grep -qF -- "$4" "$room/log"; then
         echo "$1: turned away: $(grep -F ': error' "$room/log" | sed 's/^[^ ]*: //' | cut -c1-100)"
     else
