@@ -1,7 +1,7 @@
 // The text that `--help` prints.
 
 pub const HELP: &str =
-    "panel: a board of stays at berths and a board of sailings, each in order of its keys
+    "map_panel: a board of stays at berths and a board of sailings, each in order of its keys
 
 Reads commands from standard input, one a line, and tells what became of each.
 At the end of the input it prints both boards in order. A line that is empty
@@ -48,5 +48,5 @@ Memory:
   adopt BOARD USED LEN HEAD COUNT
                          the same with these numbers; HEAD may be none, COUNT is of table entries
 
-  panel < FILE           reads a file
-  panel --help           prints this";
+  map_panel < FILE       reads a file
+  map_panel --help       prints this";
