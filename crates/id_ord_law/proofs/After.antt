@@ -1,12 +1,12 @@
 -- What a map is after a call: sound parts are sound again, and a run goes on.
-use Rattle.std.proofs.Common.{ℕ, List, [], ◌∷◌, Ordering, sym, refl, ap, ◌∙◌, subst, subst₂}
+use Rattle.std.proofs.Common.{◌≡◌, ℕ, List, [], ◌∷◌, Ordering, sym, refl, ap, ◌∙◌, subst, subst₂}
 use Rattle.id_ord_item.specs.Order.{LawfulOrder}
 use Rattle.item_set.specs.declared.item_set.ItemSet.{ItemSet}
-use Rattle.id_ord_law.specs.Law.{Start, Begins, BeginsBy, Reached, ran, stood, Ran, Onward}
-use Rattle.id_ord_law.specs.Law.Begins.{by_new as new_parts, by_adopt as adopted_parts}
-use Rattle.id_ord_law.specs.Law.Reached.{begun, called}
-use Rattle.id_ord_law.specs.Law.Start.{by_new, by_adopt}
-use Rattle.id_ord_law.specs.Parts.{Parts, walk, capacity, Sound}
+use Rattle.item_set.specs.Store.{cleared}
+use Rattle.id_ord_law.specs.Law.{Begins, Reached, ran, stood, Ran, Onward}
+use Rattle.id_ord_law.specs.Law.Begins.{by_new, by_adopt}
+use Rattle.id_ord_law.specs.Law.Reached.{called}
+use Rattle.id_ord_law.specs.Parts.{Parts, numbers, live, walk, capacity, items_in, Sound}
 use Rattle.id_ord_law.specs.Standing.{Call, after}
 use Rattle.id_ord_law.specs.Step.{Answered, step, Meets}
 use Rattle.id_ord_law.proofs.Agreeing.{Agrees}
@@ -26,22 +26,21 @@ pub meets_onward : {T : Type 0} (order : T → T → Ordering) (call : Call T) {
 meets_onward order call m c start before calls items r =
     (m.1 ∙ ap (λ (u : Parts _). (step order call u).1) r.0, ap (after order c call) r.1)
 
--- what a run that begins so has reached
+-- how a run begins, and what it reaches
 module _ {T : Type 0} (order : T → T → Ordering) where
-  begun_by : (c : ℕ) (how : Start) (p : Parts T) (items : List T) → BeginsBy order c how p items → Begins order c p items
-  begun_by c by_new p items b =
-      subst (Begins order c p) (sym b.1) (new_parts (ap (λ (n : ItemSet). n.used) b.0) (ap (λ (n : ItemSet). n.len) b.0) (ap (λ (n : ItemSet). n.free_head) b.0) b.2)
-  begun_by c by_adopt p items b = subst (Begins order c p) (sym b.1) (adopted_parts b.0 b.2)
+  pub new_begins : (p : Parts T) → numbers p ≡ cleared → Begins order (capacity p) p []
+  new_begins p e =
+      by_new (ap (λ (n : ItemSet). n.used) e) (ap (λ (n : ItemSet). n.len) e) (ap (λ (n : ItemSet). n.free_head) e) refl
+
+  pub adopted_begins : (p : Parts T) → Sound order p → Begins order (capacity p) p (items_in (live p))
+  adopted_begins p sound = by_adopt sound refl
 
   run_reached : (c : ℕ) (p : Parts T) (before : List T) → Reached order c p before → (calls : List (Call T)) → Reached order c (ran order calls p) (stood order c calls before)
   run_reached c p before r [] = r
   run_reached c p before r (call ∷ calls) = called call (run_reached c p before r calls) (refl, refl)
 
-  pub reached_by_run : (c : ℕ) (how : Start) (start : Parts T) (before : List T) (calls : List (Call T)) (q : Parts T) (items : List T)
-      → BeginsBy order c how start before → Ran order c start before calls q items → Reached order c q items
-  reached_by_run c how start before calls q items b r =
-      subst₂ (Reached order c) (sym r.0) (sym r.1) (run_reached c start before (begun (begun_by c how start before b)) calls)
-
-  -- a call takes what is reached one step on
-  pub reached_onward : (c : ℕ) (call : Call T) (p q : Parts T) (items : List T) → Onward order call p q → Reached order c p items → Reached order c q (after order c call items)
-  reached_onward c call p q items onward r = called call r (refl, (onward c p items [] items (refl, refl)).0)
+  -- a list of calls leads from what is reached to what is reached
+  pub reached_by_run : (c : ℕ) (p : Parts T) (before : List T) (calls : List (Call T)) (q : Parts T) (items : List T)
+      → Reached order c p before → Ran order c p before calls q items → Reached order c q items
+  reached_by_run c p before calls q items r run =
+      subst₂ (Reached order c) (sym run.0) (sym run.1) (run_reached c p before r calls)

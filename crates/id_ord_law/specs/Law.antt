@@ -1,8 +1,6 @@
 -- The law over runs of calls.
 --     Begins order c p items                 what a run begins with: `new`, or parts that `adopt` accepts; c is the capacity
 --     Reached order c p items                calls, one after the other, bring a map to the parts p and the machine to these items
---     Start                                  how a run begins: by `new`, or by an accepted `adopt`
---     BeginsBy order c start p items         the parts and the items that a run begins with, for either start
 --     ran order calls p                      the parts that calls, made one after the other on the parts p, leave; the newest call comes first
 --     stood order c calls items              the set that the same calls leave of these items
 --     Ran order c p before calls q items     the calls bring the parts p to q, and the set before to these items
@@ -22,9 +20,8 @@ use Rattle.std.specs.declared.cmp.Ordering.{Ordering}
 use mathlib.Core.List.{Memᴰ as Among}
 use Rattle.std.specs.List.{AllZip}
 use Rattle.item_set.specs.Slots.{sentinel}
-use Rattle.item_set.specs.Store.{cleared}
 use Rattle.index_table.specs.Walk.{Ascending}
-use Rattle.id_ord_law.specs.Parts.{Parts, Sound, Holds, numbers, live, name_at, walk, capacity, items_in}
+use Rattle.id_ord_law.specs.Parts.{Parts, Sound, Holds, live, name_at, walk, capacity, items_in}
 use Rattle.id_ord_law.specs.Standing.{Call, Said, after, said, stands}
 use Rattle.id_ord_law.specs.Standing.Answer.{done, none, gave, duplicate, full, key_changed, stale, stale_offered, shrunk}
 use Rattle.id_ord_law.specs.Step.{Answered, Meets, new_number, step}
@@ -37,14 +34,6 @@ pub data Reached {T : Type 0} (order : T → T → Ordering) (c : ℕ) : Parts T
   begun : {p : Parts T} {items : List T} → Begins order c p items → Reached order c p items
   called : {p q : Parts T} {items : List T} {answer : Answered T} (call : Call T)
       → Reached order c p items → Meets order call p answer q → Reached order c q (after order c call items)
-
-pub data Start : Type 0 where
-  by_new : Start
-  by_adopt : Start
-
-abbrev pub BeginsBy : {T : Type 0} → (T → T → Ordering) → ℕ → Start → Parts T → List T → Type 0
-BeginsBy order c by_new p items = (numbers p ≡ cleared) × (items ≡ []) × (c ≡ capacity p)
-BeginsBy order c by_adopt p items = Sound order p × (items ≡ items_in (live p)) × (c ≡ capacity p)
 
 module _ {T : Type 0} (order : T → T → Ordering) where
   abbrev pub ran : List (Call T) → Parts T → Parts T

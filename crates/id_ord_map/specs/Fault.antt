@@ -20,8 +20,7 @@ use Rattle.item_set.specs.declared.validation.ValidateCompact.{ValidateCompact}
 use Rattle.item_set.specs.declared.validation.ValidateCompact.TheVariants.{Compact, NonCompact}
 use Rattle.index_table.specs.Check.{table_fault, first_unordered}
 use Rattle.index_table.specs.declared.entry.Index.{Index}
-use Rattle.id_ord_law.specs.Law.{BeginsBy}
-use Rattle.id_ord_law.specs.Law.Start.{by_adopt}
+use Rattle.id_ord_law.specs.Law.{Begins}
 use Rattle.id_ord_law.specs.Parts.{Parts, Sound, parts, numbers, live, capacity, items_in}
 use Rattle.id_ord_errors.specs.declared.validation.ValidationError.{ValidationError}
 use Rattle.id_ord_errors.specs.declared.validation.ValidationError.TheVariants.{Size, Items, Table, Order}
@@ -50,7 +49,7 @@ module _ {T : Type 0} where
   adopted order p count before = cond (is_some (map_fault order p count)) before p
 
   abbrev pub Begun : (T → T → Ordering) → Parts T → Result (Unit {0}) ValidationError → Type 0
-  Begun order p (Ok u) = BeginsBy order (capacity p) by_adopt p (items_in (live p))
+  Begun order p (Ok u) = Begins order (capacity p) p (items_in (live p))
   Begun order p (Err fault) = Unit {0}
 
   abbrev pub vacant_slots : Parts T → ℕ

@@ -1,7 +1,7 @@
 // Making a map over memory, and the numbers by which its memory can be adopted again.
 ghost use Rattle.std.specs.Prelude.{◌≡◌, []};
 ghost use Rattle.item_set.specs.Store.{cleared};
-ghost use Rattle.id_ord_law.specs.Law.{BeginsBy, Start.by_new as by_new, RunLaw};
+ghost use Rattle.id_ord_law.specs.Law.{Begins, RunLaw};
 ghost use Rattle.id_ord_law.specs.Parts.{Sound, parts, capacity};
 ghost use Rattle.id_ord_map.specs.View.{view};
 
@@ -15,7 +15,7 @@ impl<'a, T: IdOrdItem> IdOrdMap<'a, T> {
     /// An empty map over this memory, of which nothing is written.
     pub fn new(slots: &'a mut [ItemSlot<T>], table: &'a mut [Index]) -> IdOrdMap<'a, T>
         ensures after { view result ≡ parts slots.old table.old cleared }
-        ensures begins { BeginsBy T.IdOrdItem.order (capacity (view result)) by_new (view result) [] }
+        ensures begins { Begins T.IdOrdItem.order (capacity (view result)) (view result) [] }
         ensures law { RunLaw T.IdOrdItem.order T.IdOrdItem.equal }
         ensures memory { (result.slots.ghost_name ≡ slots.entry.ghost_name) × (result.table.ghost_name ≡ table.entry.ghost_name) }
         ensures sound { Sound T.IdOrdItem.order (view result) }

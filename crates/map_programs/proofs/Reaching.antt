@@ -3,25 +3,18 @@ use Rattle.std.proofs.Common.{◌≡◌, ℕ, ◌<◌, Bool, false, eqb, List, [
 use Rattle.item_set.specs.Store.{cleared}
 use Rattle.item_set.specs.declared.slot.ItemSlot.{ItemSlot}
 use Rattle.index_table.specs.declared.entry.Index.{Index}
-use Rattle.id_ord_law.specs.Law.{BeginsBy, Onward, Reached, RunLaw, Walks, ran, stood}
-use Rattle.id_ord_law.specs.Law.Start.{by_new}
-use Rattle.id_ord_law.proofs.After.{reached_by_run, reached_onward}
+use Rattle.id_ord_law.specs.Law.{Begins, Reached, RunLaw, Walks, ran, stood}
+use Rattle.id_ord_law.specs.Law.Reached.{begun}
+use Rattle.id_ord_law.proofs.After.{reached_by_run}
 use Rattle.id_ord_law.specs.Parts.{Parts, parts, capacity, walk}
 use Rattle.id_ord_law.specs.Standing.{Call, after, said, found}
 use Rattle.id_ord_law.specs.Standing.Answer.{duplicate}
 use Rattle.id_ord_law.specs.Standing.Call.{insert_unique}
 
 module _ {T : Type 0} (order : T → T → Ordering) where
-  pub from_new : {q : Parts T} (p : Parts T) (calls : List (Call T)) → BeginsBy order (capacity p) by_new p [] → q ≡ ran order calls p → Reached order (capacity p) q (stood order (capacity p) calls [])
+  pub from_new : {q : Parts T} (p : Parts T) (calls : List (Call T)) → Begins order (capacity p) p [] → q ≡ ran order calls p → Reached order (capacity p) q (stood order (capacity p) calls [])
   from_new {q = q} p calls begins e =
-      reached_by_run order (capacity p) by_new p [] calls q (stood order (capacity p) calls []) begins (e, refl)
-
-  -- a call takes the run one step on
-  pub one_more : {p q : Parts T} {c : ℕ} {items : List T} (call : Call T) → Onward order call p q → Reached order c p items → Reached order c q (after order c call items)
-  one_more {p = p} {q = q} {c = c} {items = items} call onward r = reached_onward order c call p q items onward r
-
-  pub nothing_yet : (p : Parts T) → BeginsBy order (capacity p) by_new p [] → Reached order (capacity p) p []
-  nothing_yet p begins = from_new p [] begins refl
+      reached_by_run order (capacity p) p [] calls q (stood order (capacity p) calls []) (begun begins) (e, refl)
 
   pub room_in_new : {p : Parts T} (new : Parts T) → p ≡ new → 0 < capacity new → 0 < capacity p
   room_in_new new e room = rw e room
@@ -36,9 +29,9 @@ module _ {T : Type 0} (order : T → T → Ordering) where
 
   -- a new map holds no key, so a look for one finds nothing
   pub walks_from_new : {same : T → T → Bool} {p q : Parts T} → RunLaw order same → (slots : List (ItemSlot T)) (table : List Index) (k : T) (calls : Option T → List (Call T))
-      → p ≡ parts slots table cleared → BeginsBy order (capacity p) by_new p [] → q ≡ ran order (calls (found order k (walk p))) p
+      → p ≡ parts slots table cleared → Begins order (capacity p) p [] → q ≡ ran order (calls (found order k (walk p))) p
       → Walks order q (stood order (capacity (parts slots table cleared)) (calls None) [])
   walks_from_new {q = q} law slots table k calls e =
       let new = parts slots table cleared in
-      let FromNew : Parts T → Type 0 = λ p. BeginsBy order (capacity p) by_new p [] → q ≡ ran order (calls (found order k (walk p))) p → Walks order q (stood order (capacity new) (calls None) []) in
+      let FromNew : Parts T → Type 0 = λ p. Begins order (capacity p) p [] → q ≡ ran order (calls (found order k (walk p))) p → Walks order q (stood order (capacity new) (calls None) []) in
       subst FromNew (sym e) (λ begins run. law.walks (capacity new) q _ (from_new new (calls None) begins run))

@@ -1,4 +1,5 @@
-use Rattle.std.proofs.Common.{sym, ◌∙◌, subst, rules}
+use Rattle.std.proofs.Common.{sym, refl, ◌∙◌, subst, rules}
+use Rattle.id_ord_law.proofs.After.{adopted_begins}
 use Rattle.id_ord_map.specs.Fault.{offered, map_fault, Begun}
 use Rattle.id_ord_map.specs.View.{view}
 use Rattle.id_ord_map.proofs.Adopting.{handed_on, accepts_sound, adopted_refused}
@@ -20,3 +21,8 @@ returns-in_err-check_parts g c =
       memory = search rules;
       sound = c.requires.sound;
     }
+
+-- what is accepted is sound, so a run begins with it
+pub returns-clause-begins : goal.returns-clause-begins
+returns-clause-begins g c =
+    adopted_begins g.T.IdOrdItem.order (offered c.args.used c.args.len c.args.free_head (view c.args.self.now)) (c.in_ok-check_parts.ensures.accepts.0 refl).0
