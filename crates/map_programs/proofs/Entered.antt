@@ -1,11 +1,11 @@
 -- An entry holds what was found, and what was found can be taken out by it.
-use Rattle.std.proofs.Common.{◌≡◌, ℕ, Some, None, Option, Ordering, ap, ◌∙◌, sym, arith}
+use Rattle.std.proofs.Common.{◌≡◌, ℕ, Some, None, Option, Ordering, ◌∙◌, arith}
 use Rattle.id_ord_item.specs.Order.{LawfulOrder}
 use Rattle.id_ord_law.specs.Parts.{Parts, walk, Sound}
 use Rattle.id_ord_law.specs.Standing.{found, given}
 use Rattle.id_ord_law.specs.Standing.Answer.{none, gave, stale}
 use Rattle.id_ord_law.specs.Standing.Call.{occupied_remove}
-use Rattle.id_ord_law.specs.Step.{Answered, removing, step}
+use Rattle.id_ord_law.specs.Step.{Answered, step}
 use Rattle.id_ord_law.proofs.Keys.{found_among, found_one}
 
 module _ {T : Type 0} where

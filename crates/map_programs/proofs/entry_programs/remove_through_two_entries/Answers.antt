@@ -1,5 +1,4 @@
 -- The first item was just found, so taking it out is not refused.
-use Rattle.std.proofs.Common.{◌≡◌, Some}
 use Rattle.id_ord_law.specs.Parts.{walk}
 use Rattle.id_ord_law.specs.Standing.{found}
 use Rattle.id_ord_map.specs.View.{view}
