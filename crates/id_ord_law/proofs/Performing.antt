@@ -170,6 +170,9 @@ module _ {T : Type 0} {order : T → T → Ordering} (lawful : LawfulOrder order
         let same : y ≡ old.0 = cc in
         (o ∙ ap Some (sym same), w.0, w.1)
 
+    pub overwritten_sound : (slots : List (ItemSlot T)) → slots ≡ replaced_slots (numbers p) p.slots index x → Sound order (parts slots p.table (numbers p))
+    overwritten_sound slots slots-are = (overwritten old.0 overwrites slots slots-are).2
+
   -- adding an item whose key does not stand
   module _ (x : T) (room : p.len ≡ capacity p → ⊥) (r : Result ItemIndex (NoSlot T)) (said : r ≡ insert_answer (numbers p) p.slots x) where
     inserts : r ≡ Ok (index_of (fresh p))

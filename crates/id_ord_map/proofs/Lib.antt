@@ -1,3 +1,4 @@
+pub mod Held
 pub mod Looks
 pub mod Adopting
 pub mod Ruled

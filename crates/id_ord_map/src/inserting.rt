@@ -1,7 +1,6 @@
 // Adding items, and putting items in the place of others.
 ghost use Rattle.std.specs.Prelude.{◌≡◌};
 ghost use Rattle.id_ord_law.specs.Law.{Onward};
-ghost use Rattle.id_ord_law.specs.Parts.{Sound};
 ghost use Rattle.id_ord_law.specs.Standing.{Call.insert_unique as InsertUnique, Call.insert_overwrite as InsertOverwrite};
 ghost use Rattle.id_ord_law.specs.Step.{Meets};
 ghost use Rattle.id_ord_map.specs.Answers.{inserted, overwritten};
@@ -14,11 +13,9 @@ use id_ord_item::IdOrdItem;
 impl<'a, T: IdOrdItem> IdOrdMap<'a, T> {
     /// Adds an item whose key does not stand.
     pub fn insert_unique(&mut self, item: T) -> Result<(), InsertRefusal<T>>
-        requires sound { Sound T.IdOrdItem.order (view self.old) }
         ensures does { Meets T.IdOrdItem.order (InsertUnique item) (view self.old) (inserted result) (view self.new) }
         ensures stands { Onward T.IdOrdItem.order (InsertUnique item) (view self.old) (view self.new) }
         ensures memory { SameMemory self.old self.new }
-        ensures sound { Sound T.IdOrdItem.order (view self.new) }
     {
         if let Some(slot) = self.find_index(&item) {
             return Err(InsertRefusal::Duplicate(DuplicateItem { item, slot }));
@@ -33,11 +30,9 @@ impl<'a, T: IdOrdItem> IdOrdMap<'a, T> {
 
     /// Puts an item in the place of the one with its key, and answers that; where the key does not stand, adds it and answers none.
     pub fn insert_overwrite(&mut self, item: T) -> Result<Option<T>, MapFull<T>>
-        requires sound { Sound T.IdOrdItem.order (view self.old) }
         ensures does { Meets T.IdOrdItem.order (InsertOverwrite item) (view self.old) (overwritten result) (view self.new) }
         ensures stands { Onward T.IdOrdItem.order (InsertOverwrite item) (view self.old) (view self.new) }
         ensures memory { SameMemory self.old self.new }
-        ensures sound { Sound T.IdOrdItem.order (view self.new) }
     {
         if let Some(index) = self.find_index(&item) {
             return Ok(Some(self.replace_in(index, item)));

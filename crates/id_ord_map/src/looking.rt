@@ -2,7 +2,7 @@
 ghost use Rattle.std.specs.Prelude.{◌≡◌, ◌==◌};
 ghost use Rattle.std.specs.Ordering.{is_eq};
 ghost use Rattle.index_table.specs.Walk.{smaller};
-ghost use Rattle.id_ord_law.specs.Parts.{Sound, walk, capacity};
+ghost use Rattle.id_ord_law.specs.Parts.{walk, capacity};
 ghost use Rattle.id_ord_map.specs.Looking.{Looked};
 ghost use Rattle.id_ord_map.specs.View.{view};
 
@@ -21,7 +21,6 @@ pub(crate) fn same_key<T: IdOrdItem>(left: &T, right: &T) -> bool
 impl<'a, T: IdOrdItem> IdOrdMap<'a, T> {
     /// The slot of a key, if it stands.
     pub(crate) fn find_index<Q: Comparable<T>>(&self, query: &Q) -> Option<ItemIndex>
-        requires sound { Sound T.IdOrdItem.order (view self.now) }
         ensures { Looked T.IdOrdItem.order (Q.Comparable.meant query.now) (view self.now) result }
     {
         index_table::find_index(
@@ -33,7 +32,6 @@ impl<'a, T: IdOrdItem> IdOrdMap<'a, T> {
 
     /// The place of a key: how many of the items have smaller keys.
     pub(crate) fn find_place<Q: Comparable<T>>(&self, query: &Q) -> usize
-        requires sound { Sound T.IdOrdItem.order (view self.now) }
         ensures { result ≡ smaller T.IdOrdItem.order (Q.Comparable.meant query.now) (walk (view self.now)) }
     {
         index_table::find_place(

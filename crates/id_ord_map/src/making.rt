@@ -2,7 +2,7 @@
 ghost use Rattle.std.specs.Prelude.{◌≡◌, []};
 ghost use Rattle.item_set.specs.Store.{cleared};
 ghost use Rattle.id_ord_law.specs.Law.{Begins, RunLaw};
-ghost use Rattle.id_ord_law.specs.Parts.{Sound, parts, capacity};
+ghost use Rattle.id_ord_law.specs.Parts.{parts, capacity};
 ghost use Rattle.id_ord_map.specs.View.{view};
 
 use crate::map::IdOrdMap;
@@ -18,7 +18,6 @@ impl<'a, T: IdOrdItem> IdOrdMap<'a, T> {
         ensures begins { Begins T.IdOrdItem.order (capacity (view result)) (view result) [] }
         ensures law { RunLaw T.IdOrdItem.order T.IdOrdItem.equal }
         ensures memory { (result.slots.ghost_name ≡ slots.entry.ghost_name) × (result.table.ghost_name ≡ table.entry.ghost_name) }
-        ensures sound { Sound T.IdOrdItem.order (view result) }
     {
         runs_hold::<T>();
         IdOrdMap {

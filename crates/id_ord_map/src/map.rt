@@ -1,4 +1,6 @@
 // The map: the memory that it is lent, and its numbers.
+ghost use Rattle.id_ord_law.specs.Parts.{Sound, parts};
+
 use id_ord_item::IdOrdItem;
 use index_table::Index;
 use item_set::{ItemSet, ItemSlot};
@@ -7,9 +9,12 @@ use item_set::{ItemSet, ItemSlot};
 pub(crate) const CAPACITY_LIMIT: usize = 4096;
 
 /// Items in the order of their keys, in memory that the caller lends.
+///
+/// The memory and the numbers are always sound: `adopt` would accept them.
 #[derive(Drop)]
 pub struct IdOrdMap<'a, T: IdOrdItem> {
     pub(crate) slots: &'a mut [ItemSlot<T>],
     pub(crate) table: &'a mut [Index],
     pub(crate) items: ItemSet,
+    pub ghost sound: { ∥ Sound T.IdOrdItem.order (parts slots.now table.now items) ∥₁ },
 }

@@ -2,7 +2,7 @@
 ghost use Rattle.std.specs.Prelude.{◌≡◌, ◌-◌};
 ghost use Rattle.std.specs.Option.{option_map};
 ghost use Rattle.std.specs.List.{slice_get};
-ghost use Rattle.id_ord_law.specs.Parts.{Sound, walk};
+ghost use Rattle.id_ord_law.specs.Parts.{walk};
 ghost use Rattle.id_ord_law.specs.Standing.{found};
 ghost use Rattle.id_ord_map.specs.Answers.{fresh};
 ghost use Rattle.id_ord_map.specs.View.{view};
@@ -21,18 +21,14 @@ impl<'a, T: IdOrdItem> IdOrdMap<'a, T> {
 
     /// A copy of the item with the key looked for, if it stands.
     pub fn get<Q: Comparable<T>>(&self, query: &Q) -> Option<T>
-        requires sound { Sound T.IdOrdItem.order (view self.now) }
         ensures { result ≡ found T.IdOrdItem.order (Q.Comparable.meant query.now) (walk (view self.now)) }
     {
-        match self.find_index(query) {
-            Some(index) => self.items.get(self.slots, index),
-            None => None,
-        }
+        let index = self.find_index(query)?;
+        self.items.get(self.slots, index)
     }
 
     /// A copy of the item at a place of the walk: none from `len` on.
     pub fn iter(&self, place: usize) -> Option<T>
-        requires sound { Sound T.IdOrdItem.order (view self.now) }
         ensures { result ≡ slice_get (walk (view self.now)) place }
     {
         if place >= self.items.len as usize {
@@ -43,7 +39,6 @@ impl<'a, T: IdOrdItem> IdOrdMap<'a, T> {
 
     /// A copy of the item with the least key, if there is one.
     pub fn first(&self) -> Option<T>
-        requires sound { Sound T.IdOrdItem.order (view self.now) }
         ensures { result ≡ slice_get (walk (view self.now)) 0 }
     {
         self.iter(0)
@@ -51,7 +46,6 @@ impl<'a, T: IdOrdItem> IdOrdMap<'a, T> {
 
     /// A copy of the item with the greatest key, if there is one.
     pub fn last(&self) -> Option<T>
-        requires sound { Sound T.IdOrdItem.order (view self.now) }
         ensures { result ≡ slice_get (walk (view self.now)) (self.now.items.len - 1) }
     {
         self.iter((self.items.len as usize).saturating_sub(1))
@@ -59,12 +53,9 @@ impl<'a, T: IdOrdItem> IdOrdMap<'a, T> {
 
     /// A `RefMut` of the item with the key looked for, if it stands.
     pub fn get_mut<Q: Comparable<T>>(&self, query: &Q) -> Option<RefMut<T>>
-        requires sound { Sound T.IdOrdItem.order (view self.now) }
         ensures { result ≡ option_map fresh (found T.IdOrdItem.order (Q.Comparable.meant query.now) (walk (view self.now))) }
     {
-        match self.get(query) {
-            Some(item) => Some(RefMut::new(item)),
-            None => None,
-        }
+        let item = self.get(query)?;
+        Some(RefMut::new(item))
     }
 }

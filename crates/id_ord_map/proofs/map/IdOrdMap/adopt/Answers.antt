@@ -19,7 +19,6 @@ returns-in_err-check_parts g c =
       begins = subst (Begun order before) (refused ∙ sym answer) tt;
       law = c.runs_hold.ensures;
       memory = search rules;
-      sound = c.requires.sound;
     }
 
 -- what is accepted is sound, so a run begins with it
