@@ -26,4 +26,4 @@ returns g c =
     let run4 = one_after_the_other order (adds_by_entry items.2 items.3) calls3 p c.add_by_entry.ensures.does run3 in
     let run5 = one_after_the_other order (works_by_entry occupied.0 occupied.1 items.0) calls4 p c.work_by_entry.ensures.does run4 in
     let run6 = one_after_the_other order (puts_back_and_keeps c.args.taken rule) calls5 p c.put_back_and_keep.ensures.does run5 in
-    record { does = one_after_the_other order (takes_out k) calls6 p c.take_out.ensures.does run6; sound = c.take_out.ensures.sound }
+    record { does = one_after_the_other order (takes_out k) calls6 p c.take_out.ensures.does run6 }
