@@ -2,13 +2,14 @@
 ghost use Rattle.std.specs.Prelude.{◌≡◌, ◌==◌};
 ghost use Rattle.std.specs.Ordering.{is_eq};
 ghost use Rattle.index_table.specs.Walk.{smaller};
-ghost use Rattle.id_ord_law.specs.Parts.{walk, capacity};
+ghost use Rattle.id_ord_law.specs.Parts.{live, entries, walk, capacity};
 ghost use Rattle.id_ord_map.specs.Looking.{Looked};
 ghost use Rattle.id_ord_map.specs.View.{view};
 
 use crate::map::{CAPACITY_LIMIT, IdOrdMap};
 use id_ord_item::{Comparable, IdOrdItem};
-use item_set::ItemIndex;
+use index_table::Index;
+use item_set::{ItemIndex, ItemSlot};
 use std::cmp::Ordering;
 
 /// Whether two items have one key.
@@ -19,26 +20,31 @@ pub(crate) fn same_key<T: IdOrdItem>(left: &T, right: &T) -> bool
 }
 
 impl<'a, T: IdOrdItem> IdOrdMap<'a, T> {
+    /// The slots and the table entries in use.
+    fn in_use(&self) -> (&[ItemSlot<T>], &[Index])
+        ensures slots { result.0.now ≡ live (view self.now) }
+        ensures entries { result.1.now ≡ entries (view self.now) }
+    {
+        (
+            &self.slots[0..self.items.used as usize],
+            &self.table[0..self.items.len as usize],
+        )
+    }
+
     /// The slot of a key, if it stands.
     pub(crate) fn find_index<Q: Comparable<T>>(&self, query: &Q) -> Option<ItemIndex>
         ensures { Looked T.IdOrdItem.order (Q.Comparable.meant query.now) (view self.now) result }
     {
-        index_table::find_index(
-            &self.slots[0..self.items.used as usize],
-            &self.table[0..self.items.len as usize],
-            query,
-        )
+        let (slots, entries) = self.in_use();
+        index_table::find_index(slots, entries, query)
     }
 
     /// The place of a key: how many of the items have smaller keys.
     pub(crate) fn find_place<Q: Comparable<T>>(&self, query: &Q) -> usize
         ensures { result ≡ smaller T.IdOrdItem.order (Q.Comparable.meant query.now) (walk (view self.now)) }
     {
-        index_table::find_place(
-            &self.slots[0..self.items.used as usize],
-            &self.table[0..self.items.len as usize],
-            query,
-        )
+        let (slots, entries) = self.in_use();
+        index_table::find_place(slots, entries, query)
     }
 
     /// How many items the map's memory can hold.
