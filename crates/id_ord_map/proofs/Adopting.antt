@@ -1,12 +1,10 @@
 -- The first fault of parts that are offered, and what the answer says of them.
-use Rattle.std.proofs.Common.{◌≡◌, ℕ, ◌≤◌, cond, ltb, take, is_some, IsErrAnd, Some, None, Ok, Err, Option, Result, Ordering, sym, refl, ap, ◌∙◌, subst, inl, inr, arith}
-use Rattle.std.proofs.lemmas.Result.{err_from_is_err_and}
+use Rattle.std.proofs.Common.{◌≡◌, ℕ, ◌≤◌, cond, ltb, take, is_some, Some, None, Ok, Err, Option, Result, Ordering, sym, refl, ap, ◌∙◌, subst, inl, inr}
 use Rattle.std.proofs.lemmas.Bool.{cond-true, cond-false, cases_lt, lt-ltb, le-ltb}
 use Rattle.std.specs.Option.{option_map, option_or}
 use Rattle.id_ord_item.specs.Order.{LawfulOrder}
 use Rattle.item_set.proofs.Soundness.{none_if_ok}
 use Rattle.item_set.specs.Chain.{first_fault, unless}
-use Rattle.item_set.specs.declared.fault.ItemSetFault.{ItemSetFault}
 use Rattle.index_table.specs.Check.{table_fault, first_unordered}
 use Rattle.id_ord_law.proofs.Faults.{Faultless, sound_if_faultless, faultless_if_sound}
 use Rattle.id_ord_law.specs.Parts.{Parts, numbers, live, capacity}
@@ -17,31 +15,24 @@ use Rattle.id_ord_errors.specs.declared.validation.ValidationError.TheVariants.{
 module _ {A F : Type 0} (fault : A → F) where
   unmapped : (o : Option A) → option_map fault o ≡ None → o ≡ None
   unmapped None e = refl
-  unmapped (Some x) e = let z : ◌≡◌ {A = ℕ} 0 1 = cc in absurd (omega arith)
+  unmapped (Some x) e = cc
 
   neither : (o : Option A) (other : Option F) → option_or (option_map fault o) other ≡ None → (o ≡ None) × (other ≡ None)
   neither None other e = (refl, e)
-  neither (Some x) other e = let z : ◌≡◌ {A = ℕ} 0 1 = cc in absurd (omega arith)
+  neither (Some x) other e = cc
 
-  -- the tests go on where one finds nothing, and stop where it finds something
+  -- the tests go on where one finds nothing
   pub onward : (o : Option A) (other : Option F) → o ≡ None → option_or (option_map fault o) other ≡ other
   onward o other e = ap (λ (x : Option A). option_or (option_map fault x) other) e
 
-  stops : (o : Option A) (other : Option F) (x : A) → o ≡ Some x → option_or (option_map fault o) other ≡ Some (fault x)
-  stops o other x e = ap (λ (y : Option A). option_or (option_map fault y) other) e
-
 fault_if_err : {F : Type 0} (o : Option F) (fault : F) → Err fault ≡ unless o → o ≡ Some fault
-fault_if_err None fault e = let z : ◌≡◌ {A = ℕ} 0 1 = cc in absurd (omega arith)
+fault_if_err None fault e = cc
 fault_if_err (Some other) fault e = let same : other ≡ fault = cc in ap Some same
-
--- what the exit of a `?` hands on
-pub handed_on : {F : Type 0} (r : Result (Unit {0}) F) (fault : F) (o : Option F) → IsErrAnd r (λ given. given ≡ fault) → Err fault ≡ unless o → r ≡ unless o
-handed_on r fault o by answer = let err = err_from_is_err_and r by in err.1 ∙ ap Err err.2 ∙ answer
 
 -- the two sizes
 not_over : (c n : ℕ) (other : Option ℕ) → cond (ltb c n) (Some n) other ≡ None → (n ≤ c) × (other ≡ None)
 not_over c n other e = elim (cases_lt c n) [
-  | inl over ↦ let f = sym (cond-true _ _ _ (lt-ltb c n over)) ∙ e in let z : ◌≡◌ {A = ℕ} 0 1 = cc in absurd (omega arith)
+  | inl over ↦ let f = sym (cond-true _ _ _ (lt-ltb c n over)) ∙ e in cc
   | inr fits ↦ (fits, sym (cond-false _ _ _ (le-ltb c n fits)) ∙ e)
 ]
 
@@ -54,10 +45,6 @@ none_over c used count fits low = cond-false _ _ _ (le-ltb c used fits) ∙ cond
 module _ {T : Type 0} (order : T → T → Ordering) (p : Parts T) (count : ℕ) where
   -- where the sizes fit, the first fault is the store's, or else that of the entries
   module _ (fits : p.used ≤ capacity p) (low : count ≤ capacity p) where
-    pub store_fault : (fault : ItemSetFault) → Err fault ≡ unless (first_fault (numbers p) p.slots) → Err (Items fault) ≡ unless (map_fault order p count)
-    store_fault fault answer =
-        ap unless (sym (onward Size _ _ (none_over (capacity p) p.used count fits low) ∙ stops Items _ _ fault (fault_if_err (first_fault (numbers p) p.slots) fault answer)))
-
     pub entries_fault_lem : Ok tt ≡ unless (first_fault (numbers p) p.slots) → map_fault order p count ≡ entries_fault order (live p) (take count p.table) p.len
     entries_fault_lem answer =
         onward Size _ _ (none_over (capacity p) p.used count fits low) ∙ onward Items _ _ (none_if_ok (first_fault (numbers p) p.slots) (sym answer))
@@ -87,8 +74,8 @@ module _ {T : Type 0} (order : T → T → Ordering) (p : Parts T) (count : ℕ)
   accepts : LawfulOrder order → (o : Option ValidationError) → map_fault order p count ≡ o → Accepts order p count (unless o)
   accepts lawful None e = ((λ ok. sound_if_faultless lawful p count (passed e)), (λ s same. refl))
   accepts lawful (Some fault) e = (
-    (λ ok. let z : ◌≡◌ {A = ℕ} 0 1 = cc in absurd (omega arith)),
-    (λ s same. let none = no_fault (faultless_if_sound lawful p count s same) in let z : ◌≡◌ {A = ℕ} 0 1 = cc in absurd (omega arith)),
+    (λ ok. cc),
+    (λ s same. let none = no_fault (faultless_if_sound lawful p count s same) in cc),
   )
 
   pub accepts_sound : LawfulOrder order → (r : Result (Unit {0}) ValidationError) → r ≡ unless (map_fault order p count) → Accepts order p count r

@@ -3,18 +3,8 @@ use Rattle.item_set.specs.Chain.{unless}
 use Rattle.id_ord_law.specs.Parts.{capacity}
 use Rattle.id_ord_map.specs.Fault.{offered, entries_fault, map_fault}
 use Rattle.id_ord_map.specs.View.{view}
-use Rattle.id_ord_map.proofs.Adopting.{handed_on, store_fault, entries_fault_lem, accepts_sound}
+use Rattle.id_ord_map.proofs.Adopting.{entries_fault_lem, accepts_sound}
 use Rattle.id_ord_map.proofs.map.IdOrdMap.check_parts.Goals as goal
-
-pub returns-in_err-validate : goal.returns-in_err-validate
-returns-in_err-validate g c =
-    let order = g.T.IdOrdItem.order in let count = c.args.count in let r = c.from_residual.result in
-    let p = offered c.args.items.used c.args.items.len c.args.items.free_head (view c.args.self.now) in
-    let room = c.capacity-capacity.ensures in
-    let fits : p.used ≤ capacity p = omega arith in let low : count ≤ capacity p = omega arith in
-    let refused = store_fault order p count fits low _ c.in_err-validate.ensures.answer in
-    let answer = handed_on r _ (map_fault order p count) c.from_residual.ensures.1 refused in
-    record { answer = answer; accepts = accepts_sound order p count g.met.T.IdOrdItem.lawful r answer }
 
 pub returns : goal.returns
 returns g c =
