@@ -84,7 +84,7 @@ module _ {T : Type 0} {order : T → T → Ordering} (lawful : LawfulOrder order
         (names_inserted lawful (live p) (entries p) (walk p) s.named (live q) (entry_of (index_of n)) x i
         (seen_vacant (live p) (live q) n took.next took.free took.keeps (entries p) (walk p) s.named) took.takes)))
         (ascending_placed order lawful x (walk p) absent s.ascending) same;
-    onward = λ m y holds. took.keeps m (λ e. let moved = ap (at (live p)) e in let f = took.free in let z : ◌≡◌ {A = ℕ} 0 1 = cc in omega arith) ∙ holds;
+    onward = λ m y holds. took.keeps m (λ e. let moved = ap (at (live p)) e in let f = took.free in cc) ∙ holds;
   }
     where
       i : ℕ

@@ -165,7 +165,7 @@ module _ {T : Type 0} {order : T → T → Ordering} (lawful : LawfulOrder order
   fits_clear = record {
     agrees = agrees_empty order c (parts p.slots p.table cleared) refl refl refl a.room;
     hears = refl;
-    keeps = λ k n st slot. let z : ◌≡◌ {A = ℕ} 0 1 = cc in absurd (omega arith);
+    keeps = λ k n st slot. cc;
   }
 
   pub fits_step : (call : Call T) → Fits order c p (said order c call items) (after order c call items) (step order call p)

@@ -27,12 +27,12 @@ use Rattle.id_ord_law.proofs.Steps.{limit_low, live_long}
 module _ {T : Type 0} where
   -- an occupied slot's new number is how many occupied slots lie below it
   new_number_at : (k : ℕ) (slots : List (ItemSlot T)) (n : ℕ) (x : T) → at slots n ≡ Occupied x → get_or (new_numbers k slots) n sentinel ≡ index_of (k + occupied (take n slots))
-  new_number_at k [] n x holds = let z : ◌≡◌ {A = ℕ} 0 1 = cc in absurd (omega arith)
+  new_number_at k [] n x holds = cc
   new_number_at k (Occupied y ∷ slots) zero x holds = let e : k ≡ k + 0 = omega arith in ap index_of e
   new_number_at k (Occupied y ∷ slots) (suc n) x holds =
       let e : suc k + occupied (take n slots) ≡ k + suc (occupied (take n slots)) = omega arith in
       new_number_at (suc k) slots n x holds ∙ ap index_of e
-  new_number_at k (Vacant next ∷ slots) zero x holds = let z : ◌≡◌ {A = ℕ} 0 1 = cc in absurd (omega arith)
+  new_number_at k (Vacant next ∷ slots) zero x holds = cc
   new_number_at k (Vacant next ∷ slots) (suc n) x holds = new_number_at k slots n x holds
 
   -- so an entry that names it is rewritten to that number, which is no SENTINEL among so few slots
@@ -58,7 +58,7 @@ module _ {T : Type 0} where
     entries_moved : (es : List Index) (w : List T) → Names slots es w
         → map (renumbered (Permuted used) filled) es ≡ map (λ n. entry_of (index_of (occupied (take n slots)))) (map (λ entry. entry.0.0) es)
     entries_moved [] w named = refl
-    entries_moved (d ∷ es) [] named = let z : ◌≡◌ {A = ℕ} 0 1 = cc in absurd (omega arith)
+    entries_moved (d ∷ es) [] named = cc
     entries_moved (d ∷ es) (x ∷ w) named =
         let held : seen slots d ≡ Occupied x = cc in let rest : Names slots es w = cc in
         ap₂ (λ (e : Index) (l : List Index). e ∷ l) (entry_moved d x held) (entries_moved es w rest)
@@ -80,8 +80,8 @@ module _ {T : Type 0} {order : T → T → Ordering} (p : Parts T) (s : Sound or
       (says : answer ≡ compact_answer (numbers p) scratch) (accepted : answer ≡ Ok remap) (is : remap ≡ Permuted n) where
     moves_if : (b d : Bool) → ◌≡◌ {A = Result IndexRemap CompactRefusal} (cond b (Ok Identity) (cond d (Err Short) (Ok (Permuted p.used)))) (Ok remap)
         → (b ≡ false) × (d ≡ false) × (remap ≡ Permuted p.used)
-    moves_if true d e = let z : ◌≡◌ {A = ℕ} 0 1 = cc in absurd (omega arith)
-    moves_if false true e = let z : ◌≡◌ {A = ℕ} 0 1 = cc in absurd (omega arith)
+    moves_if true d e = cc
+    moves_if false true e = cc
     moves_if false false e = (refl, refl, cc)
 
     it_moves : (eqb p.used p.len ≡ false) × (ltb (length scratch) p.used ≡ false) × (remap ≡ Permuted p.used)

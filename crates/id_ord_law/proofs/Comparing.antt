@@ -19,7 +19,7 @@ module _ {X : Type 0} (R : X → X → Type 0) where
       (alike 0 x y (omega arith) refl refl, each_from_places xs ys (omega arith) (λ i a b low e f. alike (suc i) a b (omega arith) e f))
 
   pub each_at : (xs ys : List X) (i : ℕ) (x y : X) → AllZip R xs ys → slice_get xs i ≡ Some x → slice_get ys i ≡ Some y → R x y
-  each_at [] ys i x y each e f = let z : ◌≡◌ {A = ℕ} 0 1 = cc in absurd (omega arith)
+  each_at [] ys i x y each e f = cc
   each_at (a ∷ xs) [] i x y each e f = absurd each
   each_at (a ∷ xs) (b ∷ ys) zero x y each e f =
       let p : a ≡ x = cc in let q : b ≡ y = cc in subst₂ R p q each.0

@@ -16,7 +16,7 @@ use Rattle.id_ord_law.proofs.Steps.{walk_long}
 
 module _ {T : Type 0} {order : T → T → Ordering} (lawful : LawfulOrder order) where
   never_itself : (x : T) → order x x ≡ Less → ⊥
-  never_itself x less = let e = lawful.reflexive x in let z : ◌≡◌ {A = ℕ} 0 1 = cc in omega arith
+  never_itself x less = let e = lawful.reflexive x in cc
 
   has_key : (k : T) (w : List T) (r : Option T) → found order k w ≡ r → HasKey order k w r
   has_key k w None e = λ y m. absent order k w y e m
@@ -24,7 +24,7 @@ module _ {T : Type 0} {order : T → T → Ordering} (lawful : LawfulOrder order
 
   -- the item at an earlier place is Less
   places_ascend : (w : List T) (i j : ℕ) (x y : T) → Ascending order w → i < j → slice_get w i ≡ Some x → slice_get w j ≡ Some y → order x y ≡ Less
-  places_ascend [] i j x y up low e f = let z : ◌≡◌ {A = ℕ} 0 1 = cc in absurd (omega arith)
+  places_ascend [] i j x y up low e f = cc
   places_ascend (v ∷ w) i zero x y up low e f = absurd (omega arith)
   places_ascend (v ∷ w) zero (suc j) x y up low e f =
       let same : v ≡ x = cc in
@@ -58,7 +58,7 @@ module _ {T : Type 0} {order : T → T → Ordering} (lawful : LawfulOrder order
       none zero e f = empty w e
       none (suc m) e f =
           let there = nth_some w (suc m - 1) (omega arith) in let g = there.1 in
-          let z : ◌≡◌ {A = ℕ} 0 1 = cc in absurd (omega arith)
+          cc
 
       go : (r : Option T) → slice_get w (n - 1) ≡ r → Greatest order w r
       go None e = none n long e

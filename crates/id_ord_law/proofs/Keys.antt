@@ -30,10 +30,10 @@ less_or Greater = inr refl
 
 pub none_if : {T : Type 0} (o : Option T) → is_some o ≡ false → o ≡ None
 none_if None e = refl
-none_if (Some y) e = let z : ◌≡◌ {A = ℕ} 0 1 = cc in absurd (omega arith)
+none_if (Some y) e = cc
 
 pub some_if : {T : Type 0} (o : Option T) → is_some o ≡ true → (y : T) × (o ≡ Some y)
-some_if None e = let z : ◌≡◌ {A = ℕ} 0 1 = cc in absurd (omega arith)
+some_if None e = cc
 some_if (Some y) e = (y, refl)
 
 -- the item at a place
@@ -44,12 +44,12 @@ module _ {T : Type 0} where
   nth_past (x ∷ w) (suc i) high = nth_past w i (omega arith)
 
   pub nth_among : (w : List T) (i : ℕ) (y : T) → slice_get w i ≡ Some y → Among y w
-  nth_among [] i y e = let z : ◌≡◌ {A = ℕ} 0 1 = cc in absurd (omega arith)
+  nth_among [] i y e = cc
   nth_among (x ∷ w) zero y e = let same : y ≡ x = cc in here same
   nth_among (x ∷ w) (suc i) y e = there (nth_among w i y e)
 
   pub nth_below : (w : List T) (i : ℕ) (y : T) → slice_get w i ≡ Some y → i < length w
-  nth_below [] i y e = let z : ◌≡◌ {A = ℕ} 0 1 = cc in absurd (omega arith)
+  nth_below [] i y e = cc
   nth_below (x ∷ w) zero y e = omega arith
   nth_below (x ∷ w) (suc i) y e = let h = nth_below w i y e in omega arith
 
@@ -77,7 +77,7 @@ module _ {T : Type 0} (order : T → T → Ordering) where
 
   -- what is found
   pub found_among : (k : T) (w : List T) (y : T) → found order k w ≡ Some y → Among y w × (order k y ≡ Equal)
-  found_among k [] y e = let z : ◌≡◌ {A = ℕ} 0 1 = cc in absurd (omega arith)
+  found_among k [] y e = cc
   found_among k (x ∷ w) y e = elim (equal_or (order k x)) [
     | inl q ↦
         let f = sym (found_here k x w q) ∙ e in
@@ -90,7 +90,7 @@ module _ {T : Type 0} (order : T → T → Ordering) where
   pub absent : (k : T) (w : List T) (y : T) → found order k w ≡ None → Among y w → order k y ≡ Equal → ⊥
   absent k [] y e m q = nowhere m
   absent k (x ∷ w) y e m q = elim (equal_or (order k x)) [
-    | inl p ↦ let f = sym (found_here k x w p) ∙ e in let z : ◌≡◌ {A = ℕ} 0 1 = cc in omega arith
+    | inl p ↦ let f = sym (found_here k x w p) ∙ e in cc
     | inr n ↦ elim (either m) [
       | inl s ↦ both_ways (is_eq (order k x)) n (ap is_eq (ap (order k) (sym s) ∙ q))
       | inr r ↦ absent k w y (sym (found_later k x w n) ∙ e) r q
@@ -126,7 +126,7 @@ module _ {T : Type 0} (order : T → T → Ordering) where
   pub without_absent : (k : T) (w : List T) → found order k w ≡ None → without order k w ≡ w
   without_absent k [] e = refl
   without_absent k (y ∷ w) e = elim (equal_or (order k y)) [
-    | inl q ↦ let f = sym (found_here k y w q) ∙ e in let z : ◌≡◌ {A = ℕ} 0 1 = cc in absurd (omega arith)
+    | inl q ↦ let f = sym (found_here k y w q) ∙ e in cc
     | inr n ↦ without_later k y w n ∙ ap (λ (v : List T). y ∷ v) (without_absent k w (sym (found_later k y w n) ∙ e))
   ]
 

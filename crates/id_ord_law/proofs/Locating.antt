@@ -1,5 +1,5 @@
 -- The slot that the search of a table finds is the one named by the key's place.
-use Rattle.std.proofs.Common.{◌≡◌, ℕ, List, [], ◌∷◌, Some, None, Option, Ordering, Less, Equal, Greater, sym, refl, ap, ◌∙◌, arith}
+use Rattle.std.proofs.Common.{◌≡◌, ℕ, List, [], ◌∷◌, Some, None, Option, Ordering, Less, Equal, Greater, sym, refl, ap, ◌∙◌}
 use Rattle.std.specs.Option.{option_map}
 use Rattle.std.specs.Ordering.{is_eq, is_lt}
 use Rattle.std.specs.List.{slice_get}
@@ -25,13 +25,13 @@ module _ {T : Type 0} {order : T → T → Ordering} (lawful : LawfulOrder order
   -- a key below all of some items is not found among them
   none_below : (w : List T) (o : Option T) → ((y : T) → o ≡ Some y → order k y ≡ Less) → ((y : T) → o ≡ Some y → order k y ≡ Equal) → o ≡ None
   none_below w None less equal = refl
-  none_below w (Some y) less equal = let a = less y refl in let b = equal y refl in let z : ◌≡◌ {A = ℕ} 0 1 = cc in absurd (omega arith)
+  none_below w (Some y) less equal = let a = less y refl in let b = equal y refl in cc
 
   located_in : (slots : List (ItemSlot T)) (es : List Index) (w : List T) → Names slots es w → Ascending order w
       → slot_of order k slots es ≡ option_map (λ y. index_of (number_at es (smaller order k w))) (found order k w)
   located_in slots [] [] named up = refl
-  located_in slots [] (y ∷ w) named up = let z : ◌≡◌ {A = ℕ} 0 1 = cc in absurd (omega arith)
-  located_in slots (e ∷ es) [] named up = let z : ◌≡◌ {A = ℕ} 0 1 = cc in absurd (omega arith)
+  located_in slots [] (y ∷ w) named up = cc
+  located_in slots (e ∷ es) [] named up = cc
   located_in slots (e ∷ es) (y ∷ w) named up =
       let holds : seen slots e ≡ Occupied y = cc in let rest : Names slots es w = cc in
       elim (answer (order k y)) [
@@ -76,7 +76,7 @@ module _ {T : Type 0} {order : T → T → Ordering} (lawful : LawfulOrder order
     standing i e = go (found order k (walk p)) refl (sym slot_is ∙ e)
       where
         go : (o : Option T) → found order k (walk p) ≡ o → option_map (λ y. index_of (name_at p (smaller order k (walk p)))) o ≡ Some i → Stands i
-        go None f q = let z : ◌≡◌ {A = ℕ} 0 1 = cc in absurd (omega arith)
+        go None f q = cc
         go (Some y) f q =
             let slot : i ≡ index_of (name_at p (smaller order k (walk p))) = cc in
             let place = nth_smaller lawful k y (walk p) s.ascending f in
@@ -94,4 +94,4 @@ module _ {T : Type 0} {order : T → T → Ordering} (lawful : LawfulOrder order
       where
         go : (o : Option T) → option_map (λ y. index_of (name_at p (smaller order k (walk p)))) o ≡ None → o ≡ None
         go None q = refl
-        go (Some y) q = let z : ◌≡◌ {A = ℕ} 0 1 = cc in absurd (omega arith)
+        go (Some y) q = cc

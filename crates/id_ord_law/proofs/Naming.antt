@@ -1,5 +1,5 @@
 -- Entries that name ascending items, when a slot is written and when an entry comes or goes.
-use Rattle.std.proofs.Common.{◌≡◌, ℕ, zero, suc, List, [], ◌∷◌, map, get_or, set, Some, Ordering, Less, sym, refl, ap, ◌∙◌, ap₂, arith}
+use Rattle.std.proofs.Common.{◌≡◌, ℕ, zero, suc, List, [], ◌∷◌, map, get_or, set, Some, Ordering, Less, sym, refl, ap, ◌∙◌, ap₂}
 use Rattle.std.proofs.lemmas.List.{map-set}
 use Rattle.std.specs.List.{insert, remove, slice_get}
 use Rattle.id_ord_item.specs.Order.{LawfulOrder}
@@ -39,8 +39,8 @@ removed_set {X} (y ∷ xs) (suc i) x = ap (λ (l : List X). y ∷ l) (removed_se
 module _ {T : Type 0} where
   -- the slot that a place names holds the item of the place
   pub holds_at : (slots : List (ItemSlot T)) (es : List Index) (w : List T) (i : ℕ) (y : T) → Names slots es w → slice_get w i ≡ Some y → at slots (number_at es i) ≡ Occupied y
-  holds_at slots es [] i y named e = let z : ◌≡◌ {A = ℕ} 0 1 = cc in absurd (omega arith)
-  holds_at slots [] (x ∷ w) i y named e = let z : ◌≡◌ {A = ℕ} 0 1 = cc in absurd (omega arith)
+  holds_at slots es [] i y named e = cc
+  holds_at slots [] (x ∷ w) i y named e = cc
   holds_at slots (d ∷ es) (x ∷ w) zero y named e =
       let holds : seen slots d ≡ Occupied x = cc in let same : x ≡ y = cc in holds ∙ ap Occupied same
   holds_at slots (d ∷ es) (x ∷ w) (suc i) y named e =
@@ -50,11 +50,11 @@ module _ {T : Type 0} where
   pub seen_vacant : (slots slots' : List (ItemSlot T)) (n : ℕ) (next : ItemIndex) → at slots n ≡ Vacant next → ((k : ℕ) → (k ≡ n → ⊥) → at slots' k ≡ at slots k)
       → (es : List Index) (w : List T) → Names slots es w → map (seen slots') es ≡ map (seen slots) es
   seen_vacant slots slots' n next free keep [] w named = refl
-  seen_vacant slots slots' n next free keep (d ∷ es) [] named = let z : ◌≡◌ {A = ℕ} 0 1 = cc in absurd (omega arith)
+  seen_vacant slots slots' n next free keep (d ∷ es) [] named = cc
   seen_vacant slots slots' n next free keep (d ∷ es) (x ∷ w) named =
       let holds : seen slots d ≡ Occupied x = cc in let rest : Names slots es w = cc in
       ap₂ (λ (s : ItemSlot T) (l : List (ItemSlot T)). s ∷ l)
-      (keep d.0.0 (λ e. let same = ap (at slots) e in let z : ◌≡◌ {A = ℕ} 0 1 = cc in omega arith))
+      (keep d.0.0 (λ e. let same = ap (at slots) e in cc))
       (seen_vacant slots slots' n next free keep es w rest)
 
 module _ {T : Type 0} {order : T → T → Ordering} (lawful : LawfulOrder order) where
@@ -65,13 +65,13 @@ module _ {T : Type 0} {order : T → T → Ordering} (lawful : LawfulOrder order
       let one : y ≡ z = cc in
       let equal = ap (order y) one ∙ less in
       let itself = lawful.reflexive y in
-      let c : ◌≡◌ {A = ℕ} 0 1 = cc in omega arith
+      cc
 
   -- a slot is not named by the entries for greater items
   pub seen_later : (slots : List (ItemSlot T)) (n : ℕ) (y : T) (slot : ItemSlot T) → at slots n ≡ Occupied y
       → (es : List Index) (w : List T) → Names slots es w → Below order y w → map (seen (set slots n slot)) es ≡ map (seen slots) es
   seen_later slots n y slot holds [] w named below = refl
-  seen_later slots n y slot holds (d ∷ es) [] named below = let z : ◌≡◌ {A = ℕ} 0 1 = cc in absurd (omega arith)
+  seen_later slots n y slot holds (d ∷ es) [] named below = cc
   seen_later slots n y slot holds (d ∷ es) (x ∷ w) named below =
       let held : seen slots d ≡ Occupied x = cc in let rest : Names slots es w = cc in
       ap₂ (λ (s : ItemSlot T) (l : List (ItemSlot T)). s ∷ l)
@@ -81,8 +81,8 @@ module _ {T : Type 0} {order : T → T → Ordering} (lawful : LawfulOrder order
   -- writing the slot of a place is writing at that place
   seen_set : (slots : List (ItemSlot T)) (slot : ItemSlot T) (es : List Index) (w : List T) (i : ℕ) (y : T) → Names slots es w → Ascending order w → slice_get w i ≡ Some y
       → map (seen (set slots (number_at es i) slot)) es ≡ set (map (seen slots) es) i slot
-  seen_set slots slot es [] i y named up e = let z : ◌≡◌ {A = ℕ} 0 1 = cc in absurd (omega arith)
-  seen_set slots slot [] (x ∷ w) i y named up e = let z : ◌≡◌ {A = ℕ} 0 1 = cc in absurd (omega arith)
+  seen_set slots slot es [] i y named up e = cc
+  seen_set slots slot [] (x ∷ w) i y named up e = cc
   seen_set slots slot (d ∷ es) (x ∷ w) zero y named up e =
       let held : seen slots d ≡ Occupied x = cc in let rest : Names slots es w = cc in
       ap₂ (λ (s : ItemSlot T) (l : List (ItemSlot T)). s ∷ l)

@@ -28,11 +28,11 @@ use Rattle.id_ord_law.proofs.Steps.{entries_long, walk_long}
 -- places and keys
 module _ {T : Type 0} {order : T → T → Ordering} (lawful : LawfulOrder order) where
   less_not_equal : (x y z : T) → order x z ≡ Less → x ≡ y → order y z ≡ Equal → ⊥
-  less_not_equal x y z less same e = let f = ap (λ (v : T). order v z) same in let c : ◌≡◌ {A = ℕ} 0 1 = cc in omega arith
+  less_not_equal x y z less same e = let f = ap (λ (v : T). order v z) same in cc
 
   -- among ascending items two places with one key are one place
   pub nth_apart : (w : List T) (i j : ℕ) (y z : T) → Ascending order w → slice_get w i ≡ Some y → slice_get w j ≡ Some z → order y z ≡ Equal → i ≡ j
-  nth_apart [] i j y z up e f q = let c : ◌≡◌ {A = ℕ} 0 1 = cc in absurd (omega arith)
+  nth_apart [] i j y z up e f q = cc
   nth_apart (x ∷ w) zero zero y z up e f q = refl
   nth_apart (x ∷ w) zero (suc j) y z up e f q =
       let same : x ≡ y = cc in absurd (less_not_equal x y z (below_has order x z w up.0 (nth_among w j z f)) same q)
@@ -43,7 +43,7 @@ module _ {T : Type 0} {order : T → T → Ordering} (lawful : LawfulOrder order
   -- each entry names another occupied slot
   names_most : (slots : List (ItemSlot T)) (es : List Index) (w : List T) → EachNames slots es w → Ascending order w → length es ≤ occupied slots
   names_most slots [] w each up = omega arith
-  names_most slots (d ∷ es) [] each up = let z : ◌≡◌ {A = ℕ} 0 1 = cc in absurd (omega arith)
+  names_most slots (d ∷ es) [] each up = cc
   names_most slots (d ∷ es) (x ∷ w) each up =
       let held : seen slots d ≡ Occupied x = cc in let rest : EachNames slots es w = cc in
       let out = occupied_out slots d.0.0 x sentinel (occupied_below slots d.0.0 x held) held in
@@ -59,7 +59,7 @@ module _ {T : Type 0} {order : T → T → Ordering} (lawful : LawfulOrder order
   -- an item taken out of its slot goes in first, where it is the least
   item_out : (slots : List (ItemSlot T)) (n : ℕ) (y : T) → at slots n ≡ Occupied y → ((z : T) → Among z (items_in (set slots n (Vacant sentinel))) → order y z ≡ Less)
       → in_order order (items_in slots) ≡ placed_in order y (in_order order (items_in (set slots n (Vacant sentinel))))
-  item_out [] n y holds least = let z : ◌≡◌ {A = ℕ} 0 1 = cc in absurd (omega arith)
+  item_out [] n y holds least = cc
   item_out (slot ∷ slots) zero y holds least = ap (λ (s : ItemSlot T). in_order order (onto s (items_in slots))) holds
   item_out (Occupied x ∷ slots) (suc n) y holds least =
       ap (placed_in order x) (item_out slots n y holds (λ z m. least z (there m)))
@@ -68,8 +68,8 @@ module _ {T : Type 0} {order : T → T → Ordering} (lawful : LawfulOrder order
 
   pub in_order_items : (slots : List (ItemSlot T)) (es : List Index) (w : List T) → EachNames slots es w → Ascending order w → length es ≡ occupied slots → w ≡ in_order order (items_in slots)
   in_order_items slots [] [] each up count = sym (ap (in_order order) (no_items slots (sym count)))
-  in_order_items slots [] (x ∷ w) each up count = let z : ◌≡◌ {A = ℕ} 0 1 = cc in absurd (omega arith)
-  in_order_items slots (d ∷ es) [] each up count = let z : ◌≡◌ {A = ℕ} 0 1 = cc in absurd (omega arith)
+  in_order_items slots [] (x ∷ w) each up count = cc
+  in_order_items slots (d ∷ es) [] each up count = cc
   in_order_items slots (d ∷ es) (x ∷ w) each up count =
       let held : seen slots d ≡ Occupied x = cc in let rest : EachNames slots es w = cc in
       let out = occupied_out slots d.0.0 x sentinel (occupied_below slots d.0.0 x held) held in
@@ -84,13 +84,13 @@ module _ {T : Type 0} where
   seen_unnamed : (slots : List (ItemSlot T)) (n : ℕ) (slot : ItemSlot T) (es : List Index) → named n es ≡ false → map (seen (set slots n slot)) es ≡ map (seen slots) es
   seen_unnamed slots n slot [] e = refl
   seen_unnamed slots n slot (d ∷ es) e = elim (cases_Bool (eqb d.0.0 n)) [
-    | inl t ↦ let f = sym (cond-true _ _ _ t) ∙ e in let z : ◌≡◌ {A = ℕ} 0 1 = cc in absurd (omega arith)
+    | inl t ↦ let f = sym (cond-true _ _ _ t) ∙ e in cc
     | inr f ↦ ap₂ (λ (s : ItemSlot T) (l : List (ItemSlot T)). s ∷ l) (set_keeps slots n slot d.0.0 (eqb-false d.0.0 n f))
         (seen_unnamed slots n slot es (sym (cond-false _ _ _ f) ∙ e))
   ]
 
 named_place : (n : ℕ) (es : List Index) → named n es ≡ true → (i : ℕ) × ((i < length es) × (number_at es i ≡ n))
-named_place n [] e = let z : ◌≡◌ {A = ℕ} 0 1 = cc in absurd (omega arith)
+named_place n [] e = cc
 named_place n (d ∷ es) e = elim (cases_Bool (eqb d.0.0 n)) [
   | inl t ↦ (0, (omega arith, eqb-true d.0.0 n t))
   | inr f ↦ let r = named_place n es (sym (cond-false _ _ _ f) ∙ e) in (suc r.0, (omega (arith, r.1.0), r.1.1))

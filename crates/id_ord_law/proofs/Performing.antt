@@ -122,7 +122,7 @@ module _ {T : Type 0} {order : T → T → Ordering} (lawful : LawfulOrder order
     reads_item y e = reads.1.0 ∙ sym reads.1.1 ∙ e
 
     pub reads_some : r ≡ None → ⊥
-    reads_some e = let f = reads.1.1 in let z : ◌≡◌ {A = ℕ} 0 1 = cc in omega arith
+    reads_some e = let f = reads.1.1 in cc
 
   pub taken_out_lem : (i : ℕ) → i < p.len → (index : ItemIndex) → index ≡ index_of (name_at p i) → (slots : List (ItemSlot T)) → slots ≡ removed_slots (numbers p) p.slots index
       → (table : List Index) → table ≡ closed p.table p.len i → (items : ItemSet) → items ≡ removed (numbers p) p.slots index
@@ -157,7 +157,7 @@ module _ {T : Type 0} {order : T → T → Ordering} (lawful : LawfulOrder order
     overwrites = said ∙ ap (λ (o : Option T). ok_or o (record { item = x })) (holds ∙ old.1)
 
     pub overwrites_always : (none : NotHeld T) → r ≡ Err none → ⊥
-    overwrites_always none e = let f = overwrites in let z : ◌≡◌ {A = ℕ} 0 1 = cc in omega arith
+    overwrites_always none e = let f = overwrites in cc
 
     pub overwritten : (y : T) → r ≡ Ok y → (slots : List (ItemSlot T)) → slots ≡ replaced_slots (numbers p) p.slots index x
         → (found order x (walk p) ≡ Some y) × (parts slots p.table (numbers p) ≡ write_at (smaller order x (walk p)) x p) × Sound order (parts slots p.table (numbers p))
@@ -179,7 +179,7 @@ module _ {T : Type 0} {order : T → T → Ordering} (lawful : LawfulOrder order
     inserts = said ∙ ap (λ (o : Option ItemIndex). ok_or o (record { item = x })) (next_is_fresh lawful p s room)
 
     pub inserts_always : (none : NoSlot T) → r ≡ Err none → ⊥
-    inserts_always none e = let f = inserts in let z : ◌≡◌ {A = ℕ} 0 1 = cc in omega arith
+    inserts_always none e = let f = inserts in cc
 
     module _ (index : ItemIndex) (given : r ≡ Ok index) (m : Result Index IndexRefusal) (makes : m ≡ made index) where
       index_is : index ≡ index_of (fresh p)
@@ -191,7 +191,7 @@ module _ {T : Type 0} {order : T → T → Ordering} (lawful : LawfulOrder order
           makes ∙ ap made index_is ∙ cond-false _ _ _ (ne_eqb (fresh p) 4294967295 (λ e. omega arith))
 
       pub entry_always : (refusal : IndexRefusal) → m ≡ Err refusal → ⊥
-      entry_always refusal e = let f = entry_is in let z : ◌≡◌ {A = ℕ} 0 1 = cc in omega arith
+      entry_always refusal e = let f = entry_is in cc
 
       pub added : stands order x (walk p) ≡ false → (i : ℕ) → i ≡ smaller order x (walk p) → (entry : Index) → m ≡ Ok entry
           → (slots : List (ItemSlot T)) → slots ≡ inserted_slots (numbers p) p.slots x

@@ -44,13 +44,13 @@ module _ {T : Type 0} {order : T → T → Ordering} (lawful : LawfulOrder order
     | is_less l ↦
         let m = found_among order k (y ∷ w) z e in
         let n = below_has order k z (y ∷ w) (l, below_less order lawful k y w l up.0) m.0 in
-        let q = m.1 in let c : ◌≡◌ {A = ℕ} 0 1 = cc in absurd (omega arith)
+        let q = m.1 in cc
     | is_equal q ↦ q
     | is_greater g ↦ absurd (both_ways (is_lt (order y k)) f (ap is_lt (greater_swaps lawful k y g)))
   ]
 
   pub nth_smaller : (k z : T) (w : List T) → Ascending order w → found order k w ≡ Some z → slice_get w (smaller order k w) ≡ Some z
-  nth_smaller k z [] up e = let c : ◌≡◌ {A = ℕ} 0 1 = cc in absurd (omega arith)
+  nth_smaller k z [] up e = cc
   nth_smaller k z (y ∷ w) up e = elim (less_or (order y k)) [
     | inl l ↦
         ap (slice_get (y ∷ w)) (smaller_more k y w l)
@@ -62,7 +62,7 @@ module _ {T : Type 0} {order : T → T → Ordering} (lawful : LawfulOrder order
 
   -- an item taken out, or another with its key in its place
   pub removed_without : (k y : T) (w : List T) (i : ℕ) → Ascending order w → slice_get w i ≡ Some y → order k y ≡ Equal → remove w i ≡ without order k w
-  removed_without k y [] i up e q = let c : ◌≡◌ {A = ℕ} 0 1 = cc in absurd (omega arith)
+  removed_without k y [] i up e q = cc
   removed_without k y (x ∷ w) zero up e q =
       let same : x ≡ y = cc in
       let p : order k x ≡ Equal = ap (order k) same ∙ q in
@@ -75,7 +75,7 @@ module _ {T : Type 0} {order : T → T → Ordering} (lawful : LawfulOrder order
   less_than x y z q less = alike_right lawful z x y q ∙ less
 
   pub set_placed : (x y : T) (w : List T) (i : ℕ) → Ascending order w → slice_get w i ≡ Some y → order x y ≡ Equal → set w i x ≡ placed_in order x (without order x w)
-  set_placed x y [] i up e q = let c : ◌≡◌ {A = ℕ} 0 1 = cc in absurd (omega arith)
+  set_placed x y [] i up e q = cc
   set_placed x y (z ∷ w) zero up e q =
       let same : z ≡ y = cc in
       let p : order x z ≡ Equal = ap (order x) same ∙ q in

@@ -16,12 +16,12 @@ use Rattle.id_ord_law.proofs.Steps.{walk_long, written_leaves, removed_leaves}
 -- what is left of a list from a place on
 module _ {X : Type 0} where
   pub drop_at_item : (w : List X) (i : ℕ) (x : X) → slice_get w i ≡ Some x → drop i w ≡ x ∷ drop (suc i) w
-  drop_at_item [] i x e = let z : ◌≡◌ {A = ℕ} 0 1 = cc in absurd (omega arith)
+  drop_at_item [] i x e = cc
   drop_at_item (y ∷ w) zero x e = let same : y ≡ x = cc in ap (λ (h : X). h ∷ w) same
   drop_at_item (y ∷ w) (suc i) x e = drop_at_item w i x e
 
   drop_removed : (w : List X) (i : ℕ) (x : X) → slice_get w i ≡ Some x → drop i (removed w i) ≡ drop (suc i) w
-  drop_removed [] i x e = let z : ◌≡◌ {A = ℕ} 0 1 = cc in absurd (omega arith)
+  drop_removed [] i x e = cc
   drop_removed (y ∷ w) zero x e = refl
   drop_removed (y ∷ w) (suc i) x e = drop_removed w i x e
 

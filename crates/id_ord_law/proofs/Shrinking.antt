@@ -18,10 +18,10 @@ use Rattle.id_ord_law.proofs.Steps.{Leaves, leaves, live_long, len_used, entries
 module _ {T : Type 0} where
   -- where an occupied slot is among the packed ones
   packed_holds : (slots : List (ItemSlot T)) (n : ℕ) (x : T) → at slots n ≡ Occupied x → at (packed slots) (occupied (take n slots)) ≡ Occupied x
-  packed_holds [] n x holds = let z : ◌≡◌ {A = ℕ} 0 1 = cc in absurd (omega arith)
+  packed_holds [] n x holds = cc
   packed_holds (Occupied y ∷ slots) zero x holds = holds
   packed_holds (Occupied y ∷ slots) (suc n) x holds = packed_holds slots n x holds
-  packed_holds (Vacant next ∷ slots) zero x holds = let z : ◌≡◌ {A = ℕ} 0 1 = cc in absurd (omega arith)
+  packed_holds (Vacant next ∷ slots) zero x holds = cc
   packed_holds (Vacant next ∷ slots) (suc n) x holds = packed_holds slots n x holds
 
   occupied_packed : (slots : List (ItemSlot T)) → occupied (packed slots) ≡ occupied slots
@@ -42,7 +42,7 @@ module _ {T : Type 0} where
   seen_packed : (slots : List (ItemSlot T)) (es : List Index) (w : List T) → Names slots es w → map (seen (packed slots)) (renamed slots es) ≡ map (seen slots) es
   unfolding renamed
   seen_packed slots [] w named = refl
-  seen_packed slots (d ∷ es) [] named = let z : ◌≡◌ {A = ℕ} 0 1 = cc in absurd (omega arith)
+  seen_packed slots (d ∷ es) [] named = cc
   seen_packed slots (d ∷ es) (x ∷ w) named =
       let held : seen slots d ≡ Occupied x = cc in let rest : Names slots es w = cc in
       ap₂ (λ (s : ItemSlot T) (l : List (ItemSlot T)). s ∷ l) (packed_holds slots d.0.0 x held ∙ sym held) (seen_packed slots es w rest)

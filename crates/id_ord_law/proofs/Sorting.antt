@@ -1,5 +1,5 @@
 -- The items in key order.
-use Rattle.std.proofs.Common.{◌≡◌, ℕ, suc, false, cond, not, ◌⊎◌, List, [], ◌∷◌, length, None, Ordering, Less, Equal, sym, refl, ap, ◌∙◌, subst, ap₂, inl, inr, ⊎_elim, arith}
+use Rattle.std.proofs.Common.{◌≡◌, suc, false, cond, not, ◌⊎◌, List, [], ◌∷◌, length, None, Ordering, Less, Equal, sym, refl, ap, ◌∙◌, subst, ap₂, inl, inr, ⊎_elim}
 use mathlib.Core.List.Memᴰ.{cases_cons as either}
 use mathlib.Core.List.Memᴰ.{head as here}
 use mathlib.Core.List.Memᴰ.{not-nil as nowhere}
@@ -96,7 +96,7 @@ module _ {T : Type 0} (order : T → T → Ordering) where
     before : (x y : T) (w : List T) → found order x (y ∷ w) ≡ None → is_lt (order y x) ≡ false → order x y ≡ Less
     before x y w none f = elim (answer (order x y)) [
       | is_less e ↦ e
-      | is_equal e ↦ let g = sym (found_here order x y w e) ∙ none in let z : ◌≡◌ {A = ℕ} 0 1 = cc in absurd (omega arith)
+      | is_equal e ↦ let g = sym (found_here order x y w e) ∙ none in cc
       | is_greater e ↦ absurd (both_ways (is_lt (order y x)) f (ap is_lt (greater_swaps lawful x y e)))
     ]
 

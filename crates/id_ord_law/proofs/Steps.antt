@@ -120,6 +120,6 @@ module _ {T : Type 0} (order : T → T → Ordering) where
           | inl same ↦
               let put = set_here (live p) (name_at p i) (Vacant p.head) (occupied_below (live p) (name_at p i) y place_holds) in
               let moved = ap (at (set (live p) (name_at p i) (Vacant p.head))) same in
-              let z : ◌≡◌ {A = ℕ} 0 1 = cc in absurd (omega arith)
+              cc
           | inr other ↦ (v, (sym (set_keeps (live p) (name_at p i) (Vacant p.head) m other) ∙ now, lawful.reflexive v))
         ]
