@@ -41,7 +41,7 @@ fn find_slot(numbers: &ItemSet, slots: &[ItemSlot<Stay>], key: StayAt) -> Option
 pub fn add_stay(numbers: &mut ItemSet, slots: &mut [ItemSlot<Stay>], stay: Stay) -> Done
     ensures { Added stay numbers.old slots.old result numbers.new slots.new }
 {
-    if let Some(slot) = find_slot(numbers, slots, StayAt::of(&stay)) {
+    if let Some(slot) = find_slot(numbers, slots, StayAt::from(&stay)) {
         return Done::Duplicate { stay, slot };
     }
     match numbers.insert(slots, stay) {
