@@ -1,18 +1,12 @@
 // The order of numbers, of which keys are made.
 ghost use Rattle.std.specs.Prelude.{◌≡◌};
-ghost use Rattle.id_ord_item.specs.Lexicographic.{by_number};
+ghost use Rattle.std.specs.Ordering.{nat_cmp};
 
 use std::cmp::Ordering;
 
 /// How two numbers compare. A key of several parts joins such answers by `Ordering::then`.
 pub fn compare_numbers(a: u64, b: u64) -> Ordering
-    ensures { result ≡ by_number a b }
+    ensures { result ≡ nat_cmp a b }
 {
-    if a < b {
-        Ordering::Less
-    } else if a == b {
-        Ordering::Equal
-    } else {
-        Ordering::Greater
-    }
+    a.cmp(&b)
 }

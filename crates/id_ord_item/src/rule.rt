@@ -21,6 +21,7 @@ pub trait KeepRule<T: IdOrdItem> {
 
     ghost next: { Self → T → Self };
 
+    // The item as changed is owed with either verdict, so it stands beside the verdict.
     /// The verdict on an item and the item as changed; moves to the next state.
     fn keep(&mut self, item: T) -> (Verdict, T)
         ensures verdict { result.0 ≡ verdict self.old item }

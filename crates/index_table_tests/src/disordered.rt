@@ -39,7 +39,7 @@ fn check_promise(
     };
     assert!(rt; is_named(entries, slot), "{query:?} in {entries:?}");
     let item = item_at(slots, slot).ok_or("a slot was found that holds no item")?;
-    assert_eq!(rt; StayAt::of(&item), query, "in {entries:?}");
+    assert_eq!(rt; StayAt::from(&item), query, "in {entries:?}");
     Ok(())
 }
 

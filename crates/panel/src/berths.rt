@@ -1,64 +1,84 @@
 // The stays at the berths: each in a slot, and found by looking through the slots in use.
-ghost use Rattle.std.specs.Prelude.{◌≡◌};
-ghost use Rattle.panel.specs.Berths.{Found, Added, Dropped};
+ghost use Rattle.std.specs.Prelude.{◌≡◌, ◌↔◌, IsTrue};
+ghost use Rattle.item_set.specs.Store.{cleared};
+ghost use Rattle.panel.specs.Berths.{Stands, Found, Added, Dropped, SameMemory};
 
 use id_ord_item::Comparable;
 use item_set::{ItemIndex, ItemSet, ItemSlot};
 use panel_items::{Stay, StayAt};
-use std::cmp::Ordering;
 
-/// What was done with a change.
-#[derive(Clone, Copy)]
-pub enum Done {
-    /// The stay is in this slot now.
-    Taken { stay: Stay, slot: ItemIndex },
-    /// The stay was in this slot, which is free now.
-    Freed { stay: Stay, slot: ItemIndex },
+/// The stays at the berths, in slots that the caller lends.
+#[derive(Drop)]
+pub struct Berths<'a> {
+    pub numbers: ItemSet,
+    pub slots: &'a mut [ItemSlot<Stay>],
+}
+
+/// Why a stay was not added.
+#[derive(Clone, Copy, PartialEq, Eq, Debug)]
+pub enum AddRefusal {
     /// DUPLICATE, number 1: this slot holds a stay with the key.
     Duplicate { stay: Stay, slot: ItemIndex },
     /// FULL, number 2: no slot can take the stay.
     Full { stay: Stay },
-    /// No stay has the key.
-    NotThere { key: StayAt },
 }
 
-/// A slot in use whose stay has the key, if there is one.
-fn find_slot(numbers: &ItemSet, slots: &[ItemSlot<Stay>], key: StayAt) -> Option<ItemIndex>
-    ensures { Found key numbers.now slots.now result }
-{
-    for n in 0..numbers.used {
-        let index = ItemIndex::new(n);
-        if let Some(stay) = numbers.get(slots, index) {
-            if key.compare(&stay) == Ordering::Equal {
-                return Some(index);
-            }
+impl<'a> Berths<'a> {
+    /// Berths at which no vessel stays.
+    pub fn new(slots: &'a mut [ItemSlot<Stay>]) -> Berths<'a>
+        ensures numbers { result.numbers ≡ cleared }
+        ensures slots { result.slots.now ≡ slots.old }
+        ensures memory { result.slots.ghost_name ≡ slots.entry.ghost_name }
+    {
+        Berths {
+            numbers: ItemSet::new(),
+            slots,
         }
     }
-    None
-}
 
-/// Adds a stay, unless its key stands or no slot can take it.
-pub fn add_stay(numbers: &mut ItemSet, slots: &mut [ItemSlot<Stay>], stay: Stay) -> Done
-    ensures { Added stay numbers.old slots.old result numbers.new slots.new }
-{
-    if let Some(slot) = find_slot(numbers, slots, StayAt::of(&stay)) {
-        return Done::Duplicate { stay, slot };
+    /// Whether a slot is in use and holds a stay with the key.
+    fn stands(&self, key: StayAt, slot: ItemIndex) -> bool
+        ensures { IsTrue result ↔ Stands key self.now slot }
+    {
+        self.numbers
+            .get(self.slots, slot)
+            .is_some_and(|stay| key.compare(&stay).is_eq())
     }
-    match numbers.insert(slots, stay) {
-        Ok(slot) => Done::Taken { stay, slot },
-        Err(refused) => Done::Full { stay: refused.item },
-    }
-}
 
-/// Drops the stay with a key, if there is one.
-pub fn drop_stay(numbers: &mut ItemSet, slots: &mut [ItemSlot<Stay>], key: StayAt) -> Done
-    ensures { Dropped key numbers.old slots.old result numbers.new slots.new }
-{
-    let Some(slot) = find_slot(numbers, slots, key) else {
-        return Done::NotThere { key };
-    };
-    match numbers.remove(slots, slot) {
-        Some(stay) => Done::Freed { stay, slot },
-        None => Done::NotThere { key },
+    /// A slot in use whose stay has the key, if there is one.
+    fn find_slot(&self, key: StayAt) -> Option<ItemIndex>
+        ensures { Found key self.now result }
+    {
+        // A loop: with `find` over the numbers it stays unproved that no slot passed over has the key.
+        for n in 0..self.numbers.used {
+            let slot = ItemIndex::new(n);
+            if self.stands(key, slot) {
+                return Some(slot);
+            }
+        }
+        None
+    }
+
+    /// Adds a stay, unless its key stands or no slot can take it, and answers its slot.
+    pub fn add_stay(&mut self, stay: Stay) -> Result<ItemIndex, AddRefusal>
+        ensures added { Added stay self.old result self.new }
+        ensures memory { SameMemory self.old self.new }
+    {
+        if let Some(slot) = self.find_slot(StayAt::from(&stay)) {
+            return Err(AddRefusal::Duplicate { stay, slot });
+        }
+        self.numbers
+            .insert(self.slots, stay)
+            .map_err(|refused| AddRefusal::Full { stay: refused.item })
+    }
+
+    /// Drops the stay with a key, if there is one, and answers it with the slot that it was in.
+    pub fn drop_stay(&mut self, key: StayAt) -> Option<(ItemIndex, Stay)>
+        ensures dropped { Dropped key self.old result self.new }
+        ensures memory { SameMemory self.old self.new }
+    {
+        let slot = self.find_slot(key)?;
+        let stay = self.numbers.remove(self.slots, slot)?;
+        Some((slot, stay))
     }
 }

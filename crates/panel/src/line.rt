@@ -20,21 +20,22 @@ pub enum Field {
 }
 
 impl Field {
-    fn name(self) -> &'static str {
-        match self {
-            Field::Berth => "BERTH",
-            Field::From => "FROM",
-            Field::To => "TO",
-            Field::Vessel => "VESSEL",
-        }
-    }
-
     fn largest(self) -> u64 {
         match self {
-            Field::Berth => 65535,
-            Field::From => 4294967295,
-            Field::To => 4294967295,
-            Field::Vessel => 18446744073709551615,
+            Field::Berth => u64::from(u16::MAX),
+            Field::From | Field::To => u64::from(u32::MAX),
+            Field::Vessel => u64::MAX,
+        }
+    }
+}
+
+impl fmt::Display for Field {
+    fn fmt<W: fmt::Write>(&self, f: &mut fmt::Formatter<W>) -> fmt::Result {
+        match self {
+            Field::Berth => write!(f, "BERTH"),
+            Field::From => write!(f, "FROM"),
+            Field::To => write!(f, "TO"),
+            Field::Vessel => write!(f, "VESSEL"),
         }
     }
 }
@@ -59,16 +60,12 @@ impl<'a> fmt::Display for LineFault<'a> {
                     "it begins with '{word}', and a change begins with add or drop"
                 )
             }
-            LineFault::Missing(field) => {
-                let name = field.name();
-                write!(f, "{name} is missing")
-            }
+            LineFault::Missing(field) => write!(f, "{field} is missing"),
             LineFault::NotANumber(field, word) => {
-                let name = field.name();
                 let largest = field.largest();
                 write!(
                     f,
-                    "{name} is '{word}', and not a number from 0 to {largest}"
+                    "{field} is '{word}', and not a number from 0 to {largest}"
                 )
             }
             LineFault::TooMany(word) => write!(f, "'{word}' is one word too many"),
@@ -81,13 +78,8 @@ fn number<'a, N: FromStr>(words: &mut SplitWhitespace<'a>, field: Field) -> Resu
 where
     N::Err: Drop,
 {
-    let Some(word) = words.next() else {
-        return Err(LineFault::Missing(field));
-    };
-    match word.parse::<N>() {
-        Ok(n) => Ok(n),
-        Err(_) => Err(LineFault::NotANumber(field, word)),
-    }
+    let word = words.next().ok_or(LineFault::Missing(field))?;
+    word.parse().map_err(|_| LineFault::NotANumber(field, word))
 }
 
 fn read_stay<'a>(words: &mut SplitWhitespace<'a>) -> Result<Stay, LineFault<'a>> {
@@ -108,16 +100,11 @@ fn read_stay_at<'a>(words: &mut SplitWhitespace<'a>) -> Result<StayAt, LineFault
 
 /// The change that a line tells, if it tells one: none where it is empty or begins with `#`.
 pub fn read_line<'a>(line: &'a [u8]) -> Result<Option<Change>, LineFault<'a>> {
-    let Ok(text) = from_utf8(line) else {
-        return Err(LineFault::NotText);
-    };
+    let text = from_utf8(line).map_err(|_| LineFault::NotText)?;
     let mut words = text.split_whitespace();
-    let Some(word) = words.next() else {
+    let Some(word) = words.next().filter(|word| !word.starts_with('#')) else {
         return Ok(None);
     };
-    if word.starts_with('#') {
-        return Ok(None);
-    }
     let change = match word {
         "add" => Change::Add(read_stay(&mut words)?),
         "drop" => Change::Drop(read_stay_at(&mut words)?),

@@ -6,14 +6,13 @@ mod berths;
 mod line;
 mod report;
 
-use crate::berths::{Done, add_stay, drop_stay};
+use crate::berths::Berths;
 use crate::line::{Change, read_line};
-use crate::report::print_berths;
-use anyhow::anyhow;
-use item_set::{ItemIndex, ItemSet, ItemSlot};
-use panel_items::Stay;
-use std::env;
+use crate::report::Shown;
+use anyhow::bail;
+use item_set::{ItemIndex, ItemSlot};
 use std::io::{BufRead, BufReader};
+use std::{env, io};
 
 /// How many stays there is room for.
 const PLACES: usize = 24;
@@ -32,48 +31,58 @@ There is room for 24 stays.
     panel < FILE                reads a file
     panel --help                prints this";
 
-fn make(numbers: &mut ItemSet, slots: &mut [ItemSlot<Stay>], change: Change) -> Done {
+/// Makes the change of a line, and tells what became of it.
+fn make(rt: &HostRuntime, at: usize, berths: &mut Berths, change: Change) -> io::Result<()> {
     match change {
-        Change::Add(stay) => add_stay(numbers, slots, stay),
-        Change::Drop(key) => drop_stay(numbers, slots, key),
+        Change::Add(stay) => match berths.add_stay(stay) {
+            Ok(slot) => {
+                let (slot, stay) = (Shown(slot), Shown(stay));
+                println!(rt; "line {at}: slot {slot} taken by {stay}")
+            }
+            Err(refusal) => println!(rt; "line {at}: refused, {refusal}"),
+        },
+        Change::Drop(key) => match berths.drop_stay(key) {
+            Some((slot, stay)) => {
+                let (slot, stay) = (Shown(slot), Shown(stay));
+                println!(rt; "line {at}: slot {slot} freed by {stay}")
+            }
+            None => {
+                let key = Shown(key);
+                println!(rt; "line {at}: nothing to drop: no stay at {key}")
+            }
+        },
     }
 }
 
 fn day(rt: &HostRuntime) -> anyhow::Result<()> {
     let heap = rt.alloc();
-    let mut memory: Vec<ItemSlot<Stay>> = vec![in heap; ItemSlot::Vacant {
-        next: ItemIndex::SENTINEL
-    }; PLACES]?;
-    let mut numbers = ItemSet::new();
-    let mut at: u64 = 0;
-    for line in BufReader::new(heap, rt.stdin())?.split(heap, b'\n') {
-        let line = line?;
-        at = at.saturating_add(1);
-        match read_line(line.as_slice()) {
+    let mut slots = [ItemSlot::Vacant {
+        next: ItemIndex::SENTINEL,
+    }; PLACES];
+    let mut berths = Berths::new(&mut slots);
+    for (n, line) in BufReader::new(heap, rt.stdin())?
+        .split(heap, b'\n')
+        .enumerate()
+    {
+        let at = n + 1;
+        match read_line(line?.as_slice()) {
             Ok(None) => {}
-            Ok(Some(change)) => {
-                let done = make(&mut numbers, memory.as_mut_slice(), change);
-                println!(rt; "line {at}: {done}")?;
-            }
+            Ok(Some(change)) => make(rt, at, &mut berths, change)?,
             Err(fault) => println!(rt; "line {at}: not a change: {fault}")?,
         }
     }
-    print_berths(rt, &numbers, memory.as_slice())?;
+    println!(rt; "{berths}")?;
     Ok(())
 }
 
 fn run(rt: &HostRuntime) -> anyhow::Result<()> {
-    let mut args = env::args(rt)?;
-    let _ = args.next();
-    match args.next() {
+    match env::args(rt)?.nth(1) {
         None => day(rt),
-        Some(word) => {
-            if word.as_str() == "--help" {
-                println!(rt; "{HELP}")?;
-                return Ok(());
-            }
-            Err(anyhow!("it takes no argument but --help"))
+        Some(word) if word.as_str() == "--help" => {
+            println!(rt; "{HELP}")?;
+            Ok(())
         }
+        Some(_) => bail!("it takes no argument but --help"),
     }
 }
 

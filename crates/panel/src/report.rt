@@ -1,119 +1,90 @@
 // What the panel prints.
-use crate::berths::Done;
-use item_set::{ItemIndex, ItemSet, ItemSlot};
-use panel_items::Stay;
-use std::{fmt, io};
+use crate::berths::{AddRefusal, Berths};
+use item_set::{ItemIndex, ItemSlot};
+use panel_items::{Stay, StayAt};
+use std::{fmt, iter};
 
-impl fmt::Display for Done {
+/// A slot number, a key, a stay or a slot as it is printed.
+#[derive(Clone, Copy)]
+pub struct Shown<T>(pub T);
+
+impl fmt::Display for Shown<ItemIndex> {
+    fn fmt<W: fmt::Write>(&self, f: &mut fmt::Formatter<W>) -> fmt::Result {
+        let number = self.0.as_u32();
+        write!(f, "{number}")
+    }
+}
+
+impl fmt::Display for Shown<StayAt> {
+    fn fmt<W: fmt::Write>(&self, f: &mut fmt::Formatter<W>) -> fmt::Result {
+        let StayAt { berth, from } = self.0;
+        write!(f, "berth {berth} from {from}")
+    }
+}
+
+impl fmt::Display for Shown<Stay> {
+    fn fmt<W: fmt::Write>(&self, f: &mut fmt::Formatter<W>) -> fmt::Result {
+        let key = Shown(StayAt::from(&self.0));
+        let Stay { to, vessel, .. } = self.0;
+        write!(f, "vessel {vessel}, {key} to {to}")
+    }
+}
+
+impl fmt::Display for Shown<ItemSlot<Stay>> {
+    fn fmt<W: fmt::Write>(&self, f: &mut fmt::Formatter<W>) -> fmt::Result {
+        match self.0 {
+            ItemSlot::Occupied(stay) => {
+                let stay = Shown(stay);
+                write!(f, "{stay}")
+            }
+            ItemSlot::Vacant { next } if next.is_sentinel() => write!(f, "free, the last"),
+            ItemSlot::Vacant { next } => {
+                let next = Shown(next);
+                write!(f, "free, next {next}")
+            }
+        }
+    }
+}
+
+impl fmt::Display for AddRefusal {
     fn fmt<W: fmt::Write>(&self, f: &mut fmt::Formatter<W>) -> fmt::Result {
         match *self {
-            Done::Taken { stay, slot } => {
-                let Stay {
-                    berth,
-                    from,
-                    to,
-                    vessel,
-                } = stay;
-                let slot = slot.as_u32();
-                write!(
-                    f,
-                    "slot {slot} taken by vessel {vessel}, berth {berth} from {from} to {to}"
-                )
+            AddRefusal::Duplicate { stay, slot } => {
+                let key = Shown(StayAt::from(&stay));
+                let slot = Shown(slot);
+                write!(f, "1 DUPLICATE: {key} is in slot {slot}")
             }
-            Done::Freed { stay, slot } => {
-                let Stay {
-                    berth,
-                    from,
-                    to,
-                    vessel,
-                } = stay;
-                let slot = slot.as_u32();
-                write!(
-                    f,
-                    "slot {slot} freed by vessel {vessel}, berth {berth} from {from} to {to}"
-                )
-            }
-            Done::Duplicate { stay, slot } => {
-                let berth = stay.berth;
-                let from = stay.from;
-                let slot = slot.as_u32();
-                write!(
-                    f,
-                    "refused, 1 DUPLICATE: berth {berth} from {from} is in slot {slot}"
-                )
-            }
-            Done::Full { stay } => {
-                let berth = stay.berth;
-                let from = stay.from;
-                write!(f, "refused, 2 FULL: no slot for berth {berth} from {from}")
-            }
-            Done::NotThere { key } => {
-                let berth = key.berth;
-                let from = key.from;
-                write!(f, "nothing to drop: no stay at berth {berth} from {from}")
+            AddRefusal::Full { stay } => {
+                let key = Shown(StayAt::from(&stay));
+                write!(f, "2 FULL: no slot for {key}")
             }
         }
     }
 }
 
-fn print_slot(rt: &HostRuntime, n: u32, slot: ItemSlot<Stay>) -> io::Result<()> {
-    match slot {
-        ItemSlot::Occupied(stay) => {
-            let Stay {
-                berth,
-                from,
-                to,
-                vessel,
-            } = stay;
-            println!(rt; "  slot {n}: vessel {vessel}, berth {berth} from {from} to {to}")
+/// The slots in use, and the free slots in the order in which they will be taken.
+impl<'a> fmt::Display for Berths<'a> {
+    fn fmt<W: fmt::Write>(&self, f: &mut fmt::Formatter<W>) -> fmt::Result {
+        let used = self.numbers.used;
+        let len = self.numbers.len;
+        writeln!(f, "slots in use: {used}, with a stay: {len}")?;
+        for (n, slot) in self.slots.iter().take(used as usize).enumerate() {
+            let slot = Shown(*slot);
+            writeln!(f, "  slot {n}: {slot}")?;
         }
-        ItemSlot::Vacant { next } => {
-            if next.is_sentinel() {
-                return println!(rt; "  slot {n}: free, the last");
-            }
-            let next = next.as_u32();
-            println!(rt; "  slot {n}: free, next {next}")
+        write!(f, "free slots:")?;
+        let next_free = |slot: &ItemIndex| match self.slots.get(slot.as_u32() as usize) {
+            Some(ItemSlot::Vacant { next }) => Some(*next),
+            _ => None,
+        };
+        // A chain is never longer than there are slots in use.
+        for slot in iter::successors(Some(self.numbers.free_head), next_free)
+            .take_while(|slot| !slot.is_sentinel())
+            .take(used as usize)
+        {
+            let slot = Shown(slot);
+            write!(f, " {slot}")?;
         }
-    }
-}
-
-/// Prints the slots in use and the chain of free slots.
-pub fn print_berths(
-    rt: &HostRuntime,
-    numbers: &ItemSet,
-    slots: &[ItemSlot<Stay>],
-) -> io::Result<()> {
-    let used = numbers.used;
-    let len = numbers.len;
-    println!(rt; "slots in use: {used}, with a stay: {len}")?;
-    let mut n = 0;
-    for slot in slots.iter().take(used as usize) {
-        print_slot(rt, n, *slot)?;
-        n = n.saturating_add(1);
-    }
-    print_chain(rt, numbers, slots)
-}
-
-/// Prints the free slots in the order in which they will be taken.
-fn print_chain(rt: &HostRuntime, numbers: &ItemSet, slots: &[ItemSlot<Stay>]) -> io::Result<()> {
-    print!(rt; "free slots:")?;
-    let mut slot = numbers.free_head;
-    // A chain is never longer than there are slots in use.
-    for _ in 0..numbers.used {
-        if slot.is_sentinel() {
-            break;
-        }
-        let n = slot.as_u32();
-        print!(rt; " {n}")?;
-        slot = next_free(slots, slot);
-    }
-    println!(rt; "")
-}
-
-/// The free slot after a free slot.
-fn next_free(slots: &[ItemSlot<Stay>], slot: ItemIndex) -> ItemIndex {
-    match slots.get(slot.as_u32() as usize) {
-        Some(ItemSlot::Vacant { next }) => *next,
-        _ => ItemIndex::SENTINEL,
+        Ok(())
     }
 }

@@ -1,13 +1,13 @@
 -- Codes are in the order of the texts.
 use Rattle.std.proofs.Common.{◌≡◌, ℕ, zero, suc, ◌+◌, ◌-◌, ◌*◌, ◌<◌, List, [], ◌∷◌, ◌++◌, length, replicate, Ordering, Less, Equal, Greater, sym, refl, ap, ◌∙◌, arith}
-use Rattle.std.specs.Cmp.Lexicographic.{slice_cmp}
+use Rattle.std.specs.Cmp.{tied_itself}
+use Rattle.std.specs.Cmp.Lexicographic.{slice_cmp, nat_list_cmp_total}
 use Rattle.std.specs.Ordering.{ordering_then, nat_cmp}
 use Rattle.std.specs.Int.Digits.{number_from_digits_after, AllBelowBase}
 use Rattle.std.specs.List.{AllByRecursion}
 use Rattle.std.proofs.ByRecursion.{All-append, All-weaker}
 use Rattle.std.proofs.lemmas.List.{length-append, length-replicate}
 use Rattle.std.proofs.lemmas.Bool.Decides.{nat_tests}
-use Rattle.id_ord_item.specs.Lexicographic.{by_number}
 use Rattle.panel_items.specs.Code.{padded}
 use Rattle.panel_items.specs.CodeOrder.{Typed, CodesInTextOrder}
 
@@ -22,36 +22,33 @@ then_assoc Equal p q = refl
 then_assoc Greater p q = refl
 
 -- two numbers with one more digit each: the digits decide where the numbers are Equal
-digit_order : (m n x y : ℕ) → x < 256 → y < 256 → by_number (m * 256 + x) (n * 256 + y) ≡ ordering_then (by_number m n) (by_number x y)
+digit_order : (m n x y : ℕ) → x < 256 → y < 256 → nat_cmp (m * 256 + x) (n * 256 + y) ≡ ordering_then (nat_cmp m n) (nat_cmp x y)
 digit_order m n x y p q = grind (arith, nat_tests)
 
-digits_order : (m n : ℕ) (xs ys : List ℕ) → length xs ≡ length ys → AllBelowBase 256 xs → AllBelowBase 256 ys → by_number (number_from_digits_after 256 m xs) (number_from_digits_after 256 n ys) ≡ ordering_then (by_number m n) (slice_cmp nat_cmp xs ys)
-digits_order m n [] [] e p q = sym (then_equal (by_number m n))
+digits_order : (m n : ℕ) (xs ys : List ℕ) → length xs ≡ length ys → AllBelowBase 256 xs → AllBelowBase 256 ys → nat_cmp (number_from_digits_after 256 m xs) (number_from_digits_after 256 n ys) ≡ ordering_then (nat_cmp m n) (slice_cmp nat_cmp xs ys)
+digits_order m n [] [] e p q = sym (then_equal (nat_cmp m n))
 digits_order m n [] (y ∷ ys) e p q = absurd (omega arith)
 digits_order m n (x ∷ xs) [] e p q = absurd (omega arith)
 digits_order m n (x ∷ xs) (y ∷ ys) e p q =
     digits_order (m * 256 + x) (n * 256 + y) xs ys (omega arith) p.1 q.1 ∙
     ap (λ o. ordering_then o (slice_cmp nat_cmp xs ys)) (digit_order m n x y p.0 q.0) ∙
-    then_assoc (by_number m n) (by_number x y) (slice_cmp nat_cmp xs ys)
+    then_assoc (nat_cmp m n) (nat_cmp x y) (slice_cmp nat_cmp xs ys)
 
 zeros_order : (a b : ℕ) → a ≡ b → slice_cmp nat_cmp (replicate a 0) (replicate b 0) ≡ Equal
-zeros_order zero zero e = refl
-zeros_order zero (suc b) e = absurd (omega arith)
-zeros_order (suc a) zero e = absurd (omega arith)
-zeros_order (suc a) (suc b) e = zeros_order a b (omega arith)
+zeros_order a b e = rw (← e) (tied_itself nat_list_cmp_total (replicate a 0))
 
 -- zeros after two texts, up to one length, leave their order
 pad_order : (xs ys : List ℕ) (a b : ℕ) → length xs + a ≡ length ys + b → AllByRecursion (λ x. 0 < x) xs → AllByRecursion (λ y. 0 < y) ys → slice_cmp nat_cmp (xs ++ replicate a 0) (ys ++ replicate b 0) ≡ slice_cmp nat_cmp xs ys
 pad_order [] [] a b e p q = zeros_order a b (omega arith)
 pad_order [] (y ∷ ys) zero b e p q = absurd (omega arith)
 pad_order [] (y ∷ ys) (suc a) b e p q =
-    let less : by_number 0 y ≡ Less = grind (arith, nat_tests, q.0) in
+    let less : nat_cmp 0 y ≡ Less = grind (arith, nat_tests, q.0) in
     ap (λ o. ordering_then o (slice_cmp nat_cmp (replicate a 0) (ys ++ replicate b 0))) less
 pad_order (x ∷ xs) [] a zero e p q = absurd (omega arith)
 pad_order (x ∷ xs) [] a (suc b) e p q =
-    let greater : by_number x 0 ≡ Greater = grind (arith, nat_tests, p.0) in
+    let greater : nat_cmp x 0 ≡ Greater = grind (arith, nat_tests, p.0) in
     ap (λ o. ordering_then o (slice_cmp nat_cmp (xs ++ replicate a 0) (replicate b 0))) greater
-pad_order (x ∷ xs) (y ∷ ys) a b e p q = ap (ordering_then (by_number x y)) (pad_order xs ys a b (omega arith) p.1 q.1)
+pad_order (x ∷ xs) (y ∷ ys) a b e p q = ap (ordering_then (nat_cmp x y)) (pad_order xs ys a b (omega arith) p.1 q.1)
 
 zeros_under : (n : ℕ) → AllBelowBase 256 (replicate n 0)
 zeros_under zero = tt

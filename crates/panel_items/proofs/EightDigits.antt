@@ -1,9 +1,8 @@
--- Eight bytes as one number, and the bytes that letters are padded to.
-use Rattle.std.proofs.Common.{◌≡◌, ℕ, ◌+◌, ◌-◌, ◌*◌, ◌<◌, List, ◌++◌, length, get_or, take, drop, replicate, ap, arith}
+-- Eight bytes as one number.
+use Rattle.std.proofs.Common.{◌≡◌, ℕ, ◌+◌, ◌*◌, ◌<◌, List, length, get_or, take, ap, arith}
 use Rattle.std.specs.Int.Digits.{number_from_digits}
 use Rattle.std.proofs.lemmas.Int.Digits.{number_more}
-use Rattle.std.proofs.lemmas.List.{drop-replicate, take_all}
-use Rattle.panel_items.specs.Code.{padded}
+use Rattle.std.proofs.lemmas.List.{take_all}
 
 -- what a number of eight bytes is made of
 pub eight_digits : (bytes : List ℕ) → length bytes ≡ 8 → get_or bytes 0 0 * 72057594037927936 + get_or bytes 1 0 * 281474976710656 + get_or bytes 2 0 * 1099511627776 + get_or bytes 3 0 * 4294967296 + get_or bytes 4 0 * 16777216 + get_or bytes 5 0 * 65536 + get_or bytes 6 0 * 256 + get_or bytes 7 0 ≡ number_from_digits 256 bytes
@@ -11,9 +10,3 @@ eight_digits bytes eight =
     let digit : (i : ℕ) → i < 8 → number_from_digits 256 (take (i + 1) bytes) ≡ number_from_digits 256 (take i bytes) * 256 + get_or bytes i 0 = λ i h. number_more 256 bytes i (omega arith) in
     let all : number_from_digits 256 (take 8 bytes) ≡ number_from_digits 256 bytes = ap (number_from_digits 256) (take_all 8 bytes (omega arith)) in
     omega (arith, digit 0 (omega arith), digit 1 (omega arith), digit 2 (omega arith), digit 3 (omega arith), digit 4 (omega arith), digit 5 (omega arith), digit 6 (omega arith), digit 7 (omega arith))
-
--- letters written over the front of eight zeros
-pub over_zeros : (front letters : List ℕ) (n : ℕ) → front ≡ letters → n ≡ length letters → front ++ drop n (replicate 8 0) ≡ padded letters
-over_zeros front letters n e m =
-    let zeros : drop n (replicate {A = ℕ} 8 0) ≡ replicate (8 - length letters) 0 = rw m (drop-replicate (length letters) 8 0) in
-    cc

@@ -4,7 +4,6 @@
 use Rattle.std.specs.Prelude.{◌≡◌, ℕ, ◌<◌, ◌≤◌, List, length}
 use Rattle.std.specs.Cmp.Lexicographic.{slice_cmp}
 use Rattle.std.specs.List.{AllByRecursion}
-use Rattle.id_ord_item.specs.Lexicographic.{by_number}
 use Rattle.panel_items.specs.Code.{code_of}
 use Rattle.std.specs.Ordering.{nat_cmp}
 
@@ -12,4 +11,4 @@ abbrev pub Typed : List ℕ → Type 0
 Typed letters = (length letters ≤ 8) × AllByRecursion (λ letter. (0 < letter) × (letter < 256)) letters
 
 abbrev pub CodesInTextOrder : Type 0
-CodesInTextOrder = (xs ys : List ℕ) → Typed xs → Typed ys → by_number (code_of xs) (code_of ys) ≡ slice_cmp nat_cmp xs ys
+CodesInTextOrder = (xs ys : List ℕ) → Typed xs → Typed ys → nat_cmp (code_of xs) (code_of ys) ≡ slice_cmp nat_cmp xs ys

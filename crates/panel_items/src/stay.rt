@@ -3,7 +3,7 @@ ghost use Rattle.panel_items.specs.Stay.{by_berth_then_from, same_stay};
 ghost use Rattle.std.proofs.Common.{rules};
 ghost use Rattle.id_ord_item.proofs.Lexicographic.{lexicographic_lawful};
 
-use id_ord_item::{IdOrdItem, compare_numbers};
+use id_ord_item::IdOrdItem;
 use std::cmp::Ordering;
 
 /// A vessel's stay at a berth, from one minute to another.
@@ -27,14 +27,12 @@ impl IdOrdItem for Stay {
     ghost faithful = { Prim.search rules };
 
     fn compare(&self, other: &Stay) -> Ordering {
-        let by_berth = compare_numbers(u64::from(self.berth), u64::from(other.berth));
-        by_berth.then(compare_numbers(u64::from(self.from), u64::from(other.from)))
+        self.berth
+            .cmp(&other.berth)
+            .then(self.from.cmp(&other.from))
     }
 
     fn same(&self, other: &Stay) -> bool {
-        self.berth == other.berth
-            && self.from == other.from
-            && self.to == other.to
-            && self.vessel == other.vessel
+        self == other
     }
 }

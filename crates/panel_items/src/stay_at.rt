@@ -13,11 +13,11 @@ pub struct StayAt {
     pub from: u32,
 }
 
-impl StayAt {
-    /// The query for the key of a stay.
-    pub fn of(stay: &Stay) -> StayAt
-        ensures { result ≡ key_of stay.now }
-    {
+/// The query for the key of a stay.
+impl From<&Stay> for StayAt {
+    ghost from_gives = { λ stay query. query ≡ key_of stay.now };
+
+    fn from(stay: &Stay) -> StayAt {
         StayAt {
             berth: stay.berth,
             from: stay.from,

@@ -3,7 +3,7 @@ ghost use Rattle.panel_items_tests.specs.Buoy.{by_zone_number_light, same_buoy};
 ghost use Rattle.std.proofs.Common.{rules};
 ghost use Rattle.id_ord_item.proofs.Lexicographic.{lexicographic_lawful};
 
-use id_ord_item::{IdOrdItem, compare_numbers};
+use id_ord_item::IdOrdItem;
 use std::cmp::Ordering;
 
 /// A buoy in a zone. Its key is the zone, its number there and its light.
@@ -25,15 +25,13 @@ impl IdOrdItem for Buoy {
     ghost faithful = { Prim.search rules };
 
     fn compare(&self, other: &Buoy) -> Ordering {
-        compare_numbers(u64::from(self.zone), u64::from(other.zone))
-            .then(compare_numbers(u64::from(self.number), u64::from(other.number)))
-            .then(compare_numbers(u64::from(self.light), u64::from(other.light)))
+        self.zone
+            .cmp(&other.zone)
+            .then(self.number.cmp(&other.number))
+            .then(self.light.cmp(&other.light))
     }
 
     fn same(&self, other: &Buoy) -> bool {
-        self.zone == other.zone
-            && self.number == other.number
-            && self.light == other.light
-            && self.colour == other.colour
+        self == other
     }
 }

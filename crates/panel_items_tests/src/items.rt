@@ -107,5 +107,5 @@ fn a_stay_is_looked_for_by_berth_and_beginning(rt: HostRuntime) {
     for (item, expected) in cases {
         assert_eq!(rt; query.compare(&item), expected);
     }
-    assert_eq!(rt; StayAt::of(&stay(4, 540, 600, 7)), query);
+    assert_eq!(rt; StayAt::from(&stay(4, 540, 600, 7)), query);
 }

@@ -31,6 +31,7 @@ impl<'a> CodeText<'a> {
     /// The code that the letters mean: eight bytes as one number, the first letter highest, with zeros after a short text.
     ///
     /// The codes of texts whose letters are all above 0 are in the order of the texts.
+    #[tactic(auto, using(crate::proofs::EightDigits::eight_digits, crate::proofs::CodeOrder::codes_in_text_order))]
     pub fn code(&self) -> u64
         ensures value { result ≡ code_of (letters_of self.now) }
         ensures order { CodesInTextOrder }
@@ -43,7 +44,7 @@ impl<'a> CodeText<'a> {
         ensures { result ≡ padded (letters_of self.now) }
     {
         let mut bytes = [0; 8];
-        bytes[0..self.letters.len()].copy_from_slice(self.letters);
+        bytes[..self.letters.len()].copy_from_slice(self.letters);
         bytes
     }
 }

@@ -3,13 +3,13 @@ ghost use Rattle.panel_items.specs.CodeText.{sailing_meant};
 
 use super::CodeText;
 use crate::sailing::Sailing;
-use id_ord_item::{Comparable, compare_numbers};
+use id_ord_item::Comparable;
 use std::cmp::Ordering;
 
 impl<'a> Comparable<Sailing> for CodeText<'a> {
     ghost meant = { sailing_meant };
 
     fn compare(&self, item: &Sailing) -> Ordering {
-        compare_numbers(self.code(), item.code)
+        self.code().cmp(&item.code)
     }
 }
