@@ -1,7 +1,5 @@
-use Rattle.std.proofs.Common.{◌≡◌, ℕ, ◌+◌, ◌<◌, ◌++◌, length, take, drop, set, sym, ap, ◌∙◌, arith}
+use Rattle.std.proofs.Common.{ℕ, ◌+◌, ◌<◌, length, take, drop, set, sym, ap, ◌∙◌, arith}
 use Rattle.std.proofs.lemmas.List.{drop-set-lt}
-use Rattle.item_set.specs.Slots.{occupied}
-use Rattle.item_set.specs.Compact.{new_numbers, packed}
 use Rattle.item_set.proofs.Packing.{count_more, number_item, number_vacant, pack_item, pack_vacant, drop_on, read_on}
 use Rattle.item_set.proofs.compaction.pack.Goals as goal
 use Rattle.item_set.proofs.compaction.pack.Goals.{in-Occupied, in-Vacant}
