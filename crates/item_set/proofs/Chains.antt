@@ -43,7 +43,7 @@ module _ {T : Type 0} (slots : List (ItemSlot T)) where
   pub chain_vacant : (cs : List ℕ) (head : ItemIndex) → Chain slots head cs → (n : ℕ) (x : T) → at slots n ≡ Occupied x → AllByRecursion (λ d. d ≡ n → ⊥) cs
   chain_vacant [] head chain n x holds = tt
   chain_vacant (c ∷ cs) head chain n x holds = (
-    (λ same. let there = ap (at slots) same in let v = (vacant_below slots c (next_free (at slots c)) chain.2).1 in let z : ◌≡◌ {A = ℕ} 0 1 = cc in omega arith),
+    (λ same. let there = ap (at slots) same in let v = (vacant_below slots c (next_free (at slots c)) chain.2).1 in cc),
     chain_vacant cs (next_free (at slots c)) chain.3 n x holds,
   )
 

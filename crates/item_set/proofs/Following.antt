@@ -1,10 +1,10 @@
 -- The walk along the chain of free slots, one slot at a time, and what it shows of the whole chain.
 use Rattle.std.proofs.Common.{◌≡◌, ℕ, zero, suc, ◌<◌, ◌≤◌, Bool, true, false, cond, eqb, ltb, List, [], ◌∷◌, length, Some, None, Option, sym, refl, ap, ◌∙◌, arith}
-use Rattle.std.proofs.lemmas.Bool.{cond-true, cond-false, ne_eqb, lt-ltb, le-ltb, eq-eqb, eqb-true, ltb-true}
+use Rattle.std.proofs.lemmas.Bool.{cond-true, cond-false, ne_eqb, lt-ltb, eq-eqb, eqb-true, ltb-true}
 use Rattle.item_set.specs.Slots.{at, index_of, next_free, free_next}
 use Rattle.item_set.specs.Chain.{follow, reached, passed, Chain}
 use Rattle.item_set.specs.declared.fault.ItemSetFault.{ItemSetFault}
-use Rattle.item_set.specs.declared.fault.ItemSetFault.TheVariants.{ChainRange, ChainOccupied, ChainLong, ChainShort}
+use Rattle.item_set.specs.declared.fault.ItemSetFault.TheVariants.{ChainRange, ChainLong}
 use Rattle.item_set.specs.declared.index.ItemIndex.{ItemIndex}
 use Rattle.item_set.specs.declared.slot.ItemSlot.{ItemSlot}
 use Rattle.item_set.specs.declared.slot.ItemSlot.TheVariants.{Occupied, Vacant}
@@ -16,26 +16,12 @@ module _ {T : Type 0} (slots : List (ItemSlot T)) (met : ℕ) (head : ItemIndex)
     not_ended : eqb head.0 4294967295 ≡ false
     not_ended = ne_eqb head.0 4294967295 goes
 
-    pub follow_range : (left : ℕ) → length slots ≤ head.0 → follow slots left met head ≡ Some (ChainRange head)
-    follow_range zero past = cond-false _ _ _ not_ended ∙ cond-false _ _ _ (le-ltb head.0 (length slots) past)
-    follow_range (suc left) past = cond-false _ _ _ not_ended ∙ cond-false _ _ _ (le-ltb head.0 (length slots) past)
-
     at_slot : (slot : ItemSlot T) (onward : ItemIndex → Option ItemSetFault) → head.0 < length slots → at slots head.0 ≡ slot → reached slots head onward ≡ passed slot head onward
     at_slot slot onward inside here =
         cond-true _ _ _ (lt-ltb head.0 (length slots) inside) ∙ ap (λ (s : ItemSlot T). passed s head onward) here
 
-    pub follow_occupied : (left : ℕ) (x : T) → head.0 < length slots → at slots head.0 ≡ Occupied x → follow slots left met head ≡ Some (ChainOccupied head)
-    follow_occupied zero x inside here = cond-false _ _ _ not_ended ∙ at_slot (Occupied x) _ inside here
-    follow_occupied (suc left) x inside here = cond-false _ _ _ not_ended ∙ at_slot (Occupied x) _ inside here
-
-    pub follow_long : (next : ItemIndex) → head.0 < length slots → at slots head.0 ≡ Vacant next → follow slots 0 met head ≡ Some (ChainLong head)
-    follow_long next inside here = cond-false _ _ _ not_ended ∙ at_slot (Vacant next) _ inside here
-
     pub follow_more : (left : ℕ) (next : ItemIndex) → head.0 < length slots → at slots head.0 ≡ Vacant next → follow slots (suc left) met head ≡ follow slots left (suc met) next
     follow_more left next inside here = cond-false _ _ _ not_ended ∙ at_slot (Vacant next) (λ n. follow slots left (suc met) n) inside here
-
-  pub follow_short : (left : ℕ) → head.0 ≡ 4294967295 → follow slots (suc left) met head ≡ Some (ChainShort met)
-  follow_short left ended = cond-true _ _ _ (eq-eqb head.0 4294967295 ended)
 
   pub follow_end : head.0 ≡ 4294967295 → follow slots 0 met head ≡ None
   follow_end ended = cond-true _ _ _ (eq-eqb head.0 4294967295 ended)
@@ -45,9 +31,9 @@ module _ {T : Type 0} (slots : List (ItemSlot T)) where
   -- no fault of a chain that goes on is found only where its slot is vacant and what follows has none
   onward : (inside : Bool) (slot : ItemSlot T) (head : ItemIndex) (rest : ItemIndex → Option ItemSetFault) → cond inside (passed slot head rest) (Some (ChainRange head)) ≡ None
       → (inside ≡ true) × (slot ≡ Vacant (next_free slot)) × (rest (next_free slot) ≡ None)
-  onward true (Occupied x) head rest e = let z : ◌≡◌ {A = ℕ} 0 1 = cc in absurd (omega arith)
+  onward true (Occupied x) head rest e = cc
   onward true (Vacant next) head rest e = (refl, refl, e)
-  onward false slot head rest e = let z : ◌≡◌ {A = ℕ} 0 1 = cc in absurd (omega arith)
+  onward false slot head rest e = cc
 
   pub record ChainOf (head : ItemIndex) (many : ℕ) : Type 0 where
     pub free : List ℕ
@@ -58,8 +44,8 @@ module _ {T : Type 0} (slots : List (ItemSlot T)) where
   chain_by zero met head true few t e = record { free = []; linked = ap index_of (eqb-true head.0 4294967295 t); many_met = refl }
   chain_by zero met head false few t e =
       let o = onward (ltb head.0 (length slots)) (at slots head.0) head (λ next. Some (ChainLong head)) (sym (cond-false _ _ _ t) ∙ e) in
-      let f = o.2 in let z : ◌≡◌ {A = ℕ} 0 1 = cc in absurd (omega arith)
-  chain_by (suc left) met head true few t e = let f = sym (cond-true _ _ _ t) ∙ e in let z : ◌≡◌ {A = ℕ} 0 1 = cc in absurd (omega arith)
+      let f = o.2 in cc
+  chain_by (suc left) met head true few t e = let f = sym (cond-true _ _ _ t) ∙ e in cc
   chain_by (suc left) met head false few t e =
       let o = onward (ltb head.0 (length slots)) (at slots head.0) head (λ n. follow slots left (suc met) n) (sym (cond-false _ _ _ t) ∙ e) in
       let next = next_free (at slots head.0) in

@@ -1,6 +1,6 @@
 -- One slot more, numbered and moved down.
-use Rattle.std.proofs.Common.{◌≡◌, ℕ, suc, ◌+◌, ◌-◌, ◌<◌, ◌≤◌, List, [], ◌∷◌, ◌++◌, length, get_or, take, drop, set, replicate, sym, refl, ap, ◌∙◌, add-zero, arith}
-use Rattle.std.proofs.lemmas.List.{append_assoc, drop_more, set_at, take_more, take_more_set, length-take-le, length-append, length-replicate, drop-drop, get_or-drop, replicate_more}
+use Rattle.std.proofs.Common.{◌≡◌, ℕ, suc, ◌+◌, ◌<◌, ◌≤◌, List, [], ◌∷◌, ◌++◌, length, get_or, take, drop, set, sym, refl, ap, ◌∙◌, add-zero, arith}
+use Rattle.std.proofs.lemmas.List.{append_assoc, drop_more, set_at, take_more, take_more_set, length-take-le, drop-drop, get_or-drop}
 use Rattle.item_set.specs.Slots.{sentinel, index_of, occupied, counted}
 use Rattle.item_set.specs.Compact.{new_numbers, packed}
 use Rattle.item_set.specs.declared.index.ItemIndex.{ItemIndex}
@@ -94,15 +94,3 @@ module _ {T : Type 0} (old : List (ItemSlot T)) (k : ℕ) (slot : ItemSlot T) (i
 
   pub pack_vacant : (next : ItemIndex) → slot ≡ Vacant next → packed (take (k + 1) old) ≡ packed (take k old)
   pack_vacant next e = ap packed (one_more (Vacant next) e) ∙ packed_skip (take k old) next
-
--- one slot more is vacated
-pub vacate_more : {X : Type 0} (old slots : List X) (start k : ℕ) (v : X) → start ≤ k → k < length old → slots ≡ take start old ++ (replicate (k - start) v ++ drop k old)
-    → set slots k v ≡ take start old ++ (replicate (k + 1 - start) v ++ drop (k + 1) old)
-vacate_more {X} old slots start k v le h e =
-    let front = take start old ++ replicate (k - start) v in
-    let n : length front ≡ k = let a = length-append (take start old) (replicate (k - start) v) in let b = length-take-le start old (omega arith) in let c = length-replicate (k - start) v in omega arith in
-    let step : k - start + 1 ≡ k + 1 - start = omega arith in
-    ap (λ (l : List X). set l k v) (e ∙ sym (append_assoc (take start old) (replicate (k - start) v) (drop k old)))
-    ∙ front_more front old k v n h
-    ∙ ap (λ (l : List X). l ++ drop (k + 1) old) (append_assoc (take start old) (replicate (k - start) v) (v ∷ []) ∙ ap (λ (l : List X). take start old ++ l) (replicate_more (k - start) v ∙ ap (λ (m : ℕ). replicate m v) step))
-    ∙ append_assoc (take start old) (replicate (k + 1 - start) v) (drop (k + 1) old)

@@ -11,7 +11,7 @@ use Rattle.item_set.proofs.Packing.{occupied_le}
 
 pub none_if_ok : {F : Type 0} (fault : Option F) → unless fault ≡ Ok tt → fault ≡ None
 none_if_ok None e = refl
-none_if_ok (Some f) e = let z : ◌≡◌ {A = ℕ} 0 1 = cc in absurd (omega arith)
+none_if_ok (Some f) e = cc
 
 module _ {T : Type 0} (numbers : ItemSet) (slots : List (ItemSlot T)) where
   pub fault_of_chain : occupied (in_use numbers slots) ≡ numbers.len
@@ -33,7 +33,7 @@ module _ {T : Type 0} (numbers : ItemSet) (slots : List (ItemSlot T)) where
       let chain = chain_from (in_use numbers slots) (length (in_use numbers slots) - numbers.len) numbers.free_head few (sym (fault_of_chain count) ∙ e) in
       let many = chain.many_met in let le = occupied_le (in_use numbers slots) in
       record { count = count; free = chain.free; linked = chain.linked; enough = omega arith }
-  sound_by few false t e = let f = sym (cond-false _ _ _ t) ∙ e in let z : ◌≡◌ {A = ℕ} 0 1 = cc in absurd (omega arith)
+  sound_by few false t e = let f = sym (cond-false _ _ _ t) ∙ e in cc
 
   pub sound_if_no_fault : length (in_use numbers slots) ≤ 4294967295 → first_fault numbers slots ≡ None → SoundSet numbers slots
   sound_if_no_fault few e = sound_by few (eqb (occupied (in_use numbers slots)) numbers.len) refl e

@@ -27,19 +27,17 @@ impl CompactRefusal {
     }
 }
 
-/// Moves the items of the slots before `end` down, in their order, and answers how many there are.
-/// The scratch gets each slot's new number.
-fn move_down<T: Copy>(slots: &mut [ItemSlot<T>], scratch: &mut [ItemIndex], end: usize) -> u32
-    requires slots { end ≤ length slots.old }
-    requires scratch { end ≤ length scratch.old }
-    requires few { end < 2 ^ 32 }
-    ensures answer { result ≡ occupied (take end slots.old) }
-    ensures front { take result slots.new ≡ packed (take end slots.old) }
-    ensures back { drop end slots.new ≡ drop end slots.old }
-    ensures scratch { scratch.new ≡ new_numbers 0 (take end slots.old) ++ drop end scratch.old }
+/// Moves the items together, in their order, and answers how many there are. The slots behind them
+/// become vacant, naming no other. The scratch gets each slot's new number.
+fn pack<T: Copy>(slots: &mut [ItemSlot<T>], scratch: &mut [ItemIndex]) -> u32
+    requires scratch { length slots.old ≤ length scratch.old }
+    requires few { length slots.old < 2 ^ 32 }
+    ensures answer { result ≡ occupied slots.old }
+    ensures slots { slots.new ≡ packed slots.old ++ replicate (length slots.old - occupied slots.old) (ItemSlot.Vacant sentinel) }
+    ensures scratch { scratch.new ≡ new_numbers 0 slots.old ++ drop (length slots.old) scratch.old }
 {
     let mut count: u32 = 0;
-    for at in 0..end {
+    for at in 0..slots.len() {
         let slot = slots[at];
         match slot {
             ItemSlot::Occupied(_) => {
@@ -50,20 +48,10 @@ fn move_down<T: Copy>(slots: &mut [ItemSlot<T>], scratch: &mut [ItemIndex], end:
             ItemSlot::Vacant { .. } => scratch[at] = ItemIndex::SENTINEL,
         }
     }
+    slots[count as usize..].fill(ItemSlot::Vacant {
+        next: ItemIndex::SENTINEL,
+    });
     count
-}
-
-/// Makes the slots from `start` to before `end` vacant, each naming no other.
-fn vacate<T: Copy>(slots: &mut [ItemSlot<T>], start: usize, end: usize)
-    requires order { start ≤ end }
-    requires within { end ≤ length slots.old }
-    ensures { slots.new ≡ take start slots.old ++ (replicate (end - start) (ItemSlot.Vacant sentinel) ++ drop end slots.old) }
-{
-    for at in start..end {
-        slots[at] = ItemSlot::Vacant {
-            next: ItemIndex::SENTINEL,
-        };
-    }
 }
 
 impl ItemSet {
@@ -90,8 +78,7 @@ impl ItemSet {
             return Err(CompactRefusal::Short);
         }
         let end = (used as usize).min(slots.len());
-        let count = move_down(slots, scratch, end);
-        vacate(slots, count as usize, end);
+        let count = pack(&mut slots[..end], scratch);
         *self = ItemSet {
             used: count,
             len: count,

@@ -1,6 +1,7 @@
 // The numbers of a slot store, and what it does with one item.
 ghost use Rattle.std.specs.Prelude.{◌≡◌, ◌^◌, ◌<◌, length};
-ghost use Rattle.item_set.specs.Store.{in_use, inserted, inserted_slots, insert_answer, held_in, removed, removed_slots, replaced_slots, replace_answer, cleared};
+ghost use Rattle.std.specs.Option.{option_map};
+ghost use Rattle.item_set.specs.Store.{in_use, grown, next_index, inserted, inserted_slots, insert_answer, held_in, removed, removed_slots, replaced_slots, replace_answer, cleared};
 
 use crate::index::ItemIndex;
 use crate::slot::{ItemSlot, item_at, next_at, put};
@@ -48,11 +49,8 @@ impl ItemSet {
         ensures value { result.now ≡ in_use self.now slots.now }
         ensures bound { length result.now < 2 ^ 32 }
     {
-        let used = self.used as usize;
-        if used >= slots.len() {
-            return slots;
-        }
-        &slots[0..used]
+        let end = (self.used as usize).min(slots.len());
+        &slots[..end]
     }
 
     /// The item in a slot: none where the slot is not in use, or vacant.
@@ -60,6 +58,23 @@ impl ItemSet {
         ensures { result ≡ held_in self.now slots.now index }
     {
         item_at(self.in_use(slots), index)
+    }
+
+    /// The slot that takes one item more, and the numbers with that item: none where there is no such slot.
+    fn one_more<T: Copy>(&self, slots: &[ItemSlot<T>]) -> Option<(ItemIndex, ItemSet)>
+        ensures { result ≡ option_map (λ i. (i, grown self.now slots.now)) (next_index self.now slots.now) }
+    {
+        let mut more = *self;
+        more.len = self.len.checked_add(1)?;
+        if self.free_head.is_sentinel() {
+            if self.used as usize >= slots.len() {
+                return None;
+            }
+            more.used = self.used.checked_add(1)?;
+            return Some((ItemIndex::new(self.used), more));
+        }
+        more.free_head = next_at(self.in_use(slots), self.free_head)?;
+        Some((self.free_head, more))
     }
 
     /// Puts an item into the free head, or into the first slot that is not in use if none is free,
@@ -73,26 +88,9 @@ impl ItemSet {
         ensures slots { slots.new ≡ inserted_slots self.old slots.old item }
         ensures numbers { self.new ≡ inserted self.old slots.old }
     {
-        if self.len == u32::MAX {
-            return Err(NoSlot { item });
-        }
-        if self.free_head.is_sentinel() {
-            if self.used == u32::MAX || self.used as usize >= slots.len() {
-                return Err(NoSlot { item });
-            }
-            let index = ItemIndex::new(self.used);
-            put(slots, index, ItemSlot::Occupied(item));
-            self.used += 1;
-            self.len += 1;
-            return Ok(index);
-        }
-        let index = self.free_head;
-        let Some(next) = next_at(self.in_use(slots), index) else {
-            return Err(NoSlot { item });
-        };
+        let (index, more) = self.one_more(slots).ok_or(NoSlot { item })?;
         put(slots, index, ItemSlot::Occupied(item));
-        self.free_head = next;
-        self.len += 1;
+        *self = more;
         Ok(index)
     }
 
@@ -122,9 +120,7 @@ impl ItemSet {
         ensures answer { result ≡ replace_answer self.now slots.old index item }
         ensures slots { slots.new ≡ replaced_slots self.now slots.old index item }
     {
-        let Some(old) = self.get(slots, index) else {
-            return Err(NotHeld { item });
-        };
+        let old = self.get(slots, index).ok_or(NotHeld { item })?;
         put(slots, index, ItemSlot::Occupied(item));
         Ok(old)
     }

@@ -43,15 +43,14 @@ impl IndexRemap {
         match *self {
             IndexRemap::Identity => Ok(old),
             IndexRemap::Permuted { used } => {
-                let at = old.as_u32() as usize;
-                if at >= used as usize || at >= scratch.len() {
-                    return Err(RemapRefusal::Range);
-                }
-                let new = scratch[at];
+                let end = (used as usize).min(scratch.len());
+                let new = scratch[..end]
+                    .get(old.as_u32() as usize)
+                    .ok_or(RemapRefusal::Range)?;
                 if new.is_sentinel() {
                     return Err(RemapRefusal::Gone);
                 }
-                Ok(new)
+                Ok(*new)
             }
         }
     }

@@ -15,13 +15,8 @@ pub enum ItemSlot<T> {
 pub fn item_at<T: Copy>(slots: &[ItemSlot<T>], index: ItemIndex) -> Option<T>
     ensures { result ≡ held (at slots.now index.0) }
 {
-    let at = index.as_u32() as usize;
-    if at >= slots.len() {
-        return None;
-    }
-    let slot = slots[at];
-    match slot {
-        ItemSlot::Occupied(item) => Some(item),
+    match slots.get(index.as_u32() as usize)? {
+        ItemSlot::Occupied(item) => Some(*item),
         ItemSlot::Vacant { .. } => None,
     }
 }
@@ -30,14 +25,9 @@ pub fn item_at<T: Copy>(slots: &[ItemSlot<T>], index: ItemIndex) -> Option<T>
 pub(crate) fn next_at<T: Copy>(slots: &[ItemSlot<T>], index: ItemIndex) -> Option<ItemIndex>
     ensures { result ≡ vacant_next slots.now index.0 }
 {
-    let at = index.as_u32() as usize;
-    if at >= slots.len() {
-        return None;
-    }
-    let slot = slots[at];
-    match slot {
+    match slots.get(index.as_u32() as usize)? {
         ItemSlot::Occupied(_) => None,
-        ItemSlot::Vacant { next } => Some(next),
+        ItemSlot::Vacant { next } => Some(*next),
     }
 }
 

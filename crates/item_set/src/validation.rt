@@ -1,7 +1,7 @@
 // The check of a store's parts.
-ghost use Rattle.std.specs.Prelude.{◌≡◌, ◌+◌, ◌^◌, ◌<◌, ◌≤◌, length, Ok};
+ghost use Rattle.std.specs.Prelude.{◌≡◌, ◌+◌, ◌^◌, ◌<◌, ◌≤◌, length, Ok, Some, Option, MatchResult};
 ghost use Rattle.item_set.specs.Slots.{occupied};
-ghost use Rattle.item_set.specs.Chain.{SoundSet, follow, first_fault, unless};
+ghost use Rattle.item_set.specs.Chain.{SoundSet, reached, follow, first_fault, unless};
 ghost use Rattle.item_set.specs.Compact.{compact_fault};
 
 use crate::fault::ItemSetFault;
@@ -17,18 +17,25 @@ pub enum ValidateCompact {
 }
 
 /// How many of the slots hold an item, counted one by one.
-fn count_occupied<T: Copy>(slots: &[ItemSlot<T>]) -> u32
+fn count_occupied<T>(slots: &[ItemSlot<T>]) -> u32
     requires { length slots.now < 2 ^ 32 }
     ensures { result ≡ occupied slots.now }
 {
-    let mut count = 0;
-    for slot in slots {
-        match slot {
-            ItemSlot::Occupied(_) => count += 1,
-            ItemSlot::Vacant { .. } => {}
-        }
+    slots
+        .iter()
+        .filter(|slot| matches!(slot, ItemSlot::Occupied(_)))
+        .count() as u32
+}
+
+/// The free slot that one of the chain names, or the fault where it is no vacant slot.
+fn next_free<T: Copy>(slots: &[ItemSlot<T>], slot: ItemIndex) -> Result<ItemIndex, ItemSetFault>
+    ensures { (onward : ItemIndex → Option ItemSetFault) → MatchResult result (λ next. reached slots.now slot onward ≡ onward next) (λ fault. reached slots.now slot onward ≡ Some fault) }
+{
+    match slots.get(slot.as_u32() as usize) {
+        Some(ItemSlot::Vacant { next }) => Ok(*next),
+        Some(ItemSlot::Occupied(_)) => Err(ItemSetFault::ChainOccupied { slot }),
+        None => Err(ItemSetFault::ChainRange { slot }),
     }
-    count
 }
 
 /// The fault of the chain that begins at `head`, which should meet `vacant` slots and then end.
@@ -40,28 +47,17 @@ fn check_chain<T: Copy>(
     ensures { result ≡ unless (follow slots.now vacant 0 head) }
 {
     let mut slot = head;
-    let mut met = 0;
-    while !slot.is_sentinel() {
-        let at = slot.as_u32() as usize;
-        if at >= slots.len() {
-            return Err(ItemSetFault::ChainRange { slot });
+    for steps in 0..vacant {
+        if slot.is_sentinel() {
+            return Err(ItemSetFault::ChainShort { steps });
         }
-        let there = slots[at];
-        match there {
-            ItemSlot::Occupied(_) => return Err(ItemSetFault::ChainOccupied { slot }),
-            ItemSlot::Vacant { next } => {
-                if met == vacant {
-                    return Err(ItemSetFault::ChainLong { slot });
-                }
-                met += 1;
-                slot = next;
-            }
-        }
+        slot = next_free(slots, slot)?;
     }
-    if met < vacant {
-        return Err(ItemSetFault::ChainShort { steps: met });
+    if slot.is_sentinel() {
+        return Ok(());
     }
-    Ok(())
+    next_free(slots, slot)?;
+    Err(ItemSetFault::ChainLong { slot })
 }
 
 impl ItemSet {

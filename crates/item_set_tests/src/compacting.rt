@@ -137,7 +137,7 @@ fn a_short_scratch_is_refused_before_anything_is_written(rt: HostRuntime) -> Res
 #[test]
 fn a_scratch_of_used_places_is_enough(rt: HostRuntime) -> Result<(), Fail> {
     let mut store = Store::new(3, 1, 1, [vacant(S), vacant(0), held(30), held(99)]);
-    let mut places = [ItemIndex::new(7), ItemIndex::new(7), ItemIndex::new(7)];
+    let mut places = [ItemIndex::new(7); 3];
     let answer = store.numbers.compact(&mut store.slots, &mut places);
     assert_eq!(rt; answer, Ok(IndexRemap::Permuted { used: 3 }));
     assert_eq!(rt;

@@ -1,4 +1,6 @@
 // Tests of compaction over every pattern of occupied and vacant slots.
+ghost use Rattle.std.specs.Prelude.{◌<◌};
+
 use item_set::{
     CompactRefusal, IndexRemap, ItemIndex, ItemSet, ItemSlot, RemapRefusal, ValidateCompact,
 };
@@ -17,6 +19,13 @@ const VACANT: ItemSlot<u32> = ItemSlot::Vacant {
     next: ItemIndex::SENTINEL,
 };
 
+/// Whether the slot is one of the pattern.
+fn contains(pattern: u32, slot: u32) -> bool
+    requires { slot < 32 }
+{
+    pattern >> slot & 1 == 1
+}
+
 impl Row {
     /// The items 100 to 105 in the slots 0 to 5.
     fn full(rt: &impl Abort) -> Result<Row, Fail> {
@@ -34,13 +43,11 @@ impl Row {
 
     /// Takes out the items of the slots that are not in the pattern.
     fn thin_out(&mut self, rt: &impl Abort, pattern: u32) -> Result<(), Fail> {
-        let mut rest = pattern;
         for at in 0..6 {
-            if rest % 2 == 0 {
+            if !contains(pattern, at) {
                 let answer = self.numbers.remove(&mut self.slots, ItemIndex::new(at));
                 assert_eq!(rt; answer, Some(100 + at));
             }
-            rest /= 2;
         }
         Ok(())
     }
@@ -51,19 +58,18 @@ impl Row {
 
     /// The items of the pattern stand from slot 0 on, under the numbers that the remap answers.
     fn stand_in_order(&self, rt: &impl Abort, remap: IndexRemap, pattern: u32) -> Result<(), Fail> {
-        let mut rest = pattern;
+        // numbers the slots of the pattern alone, so it is no count of the rounds
         let mut new: u32 = 0;
         for at in 0..6 {
             let found = remap.remap(&self.scratch, ItemIndex::new(at));
-            if rest % 2 == 0 {
-                assert_eq!(rt; found, Err(RemapRefusal::Gone));
-            } else {
+            if contains(pattern, at) {
                 assert_eq!(rt; found, Ok(ItemIndex::new(new)));
                 let item = self.numbers.get(&self.slots, ItemIndex::new(new));
                 assert_eq!(rt; item, Some(100 + at));
                 new = new.wrapping_add(1);
+            } else {
+                assert_eq!(rt; found, Err(RemapRefusal::Gone));
             }
-            rest /= 2;
         }
         assert_eq!(rt; self.numbers.len, new);
         assert_eq!(rt; self.numbers.used, new);
@@ -72,12 +78,8 @@ impl Row {
 
     /// Each slot past the items is vacant and names no other.
     fn end_vacant(&self, rt: &impl Abort) -> Result<(), Fail> {
-        let mut at: u32 = 0;
-        for slot in self.slots {
-            if at >= self.numbers.len {
-                assert_eq!(rt; slot, VACANT);
-            }
-            at = at.wrapping_add(1);
+        for slot in self.slots.iter().skip(self.numbers.len as usize) {
+            assert_eq!(rt; *slot, VACANT);
         }
         Ok(())
     }

@@ -4,6 +4,7 @@ use item_set::{ItemSet, ItemSlot};
 use std::process::Abort;
 use std::test::*;
 
+// a fault is named by its number here, since the numbers are what a caller goes by
 const COUNT: u8 = 11;
 
 const CHAIN_RANGE: u8 = 12;
@@ -21,21 +22,18 @@ fn finds(
     number: u8,
     place: u32,
 ) -> Result<(), Fail> {
-    match numbers.validate(slots) {
-        Ok(()) => Err(Fail::new("no fault was found")),
-        Err(fault) => {
-            assert_eq!(rt; fault.number(), number);
-            assert_eq!(rt; fault.place(), place);
-            Ok(())
-        }
-    }
+    let Err(fault) = numbers.validate(slots) else {
+        return Err(Fail::new("no fault was found"));
+    };
+    assert_eq!(rt; fault.number(), number);
+    assert_eq!(rt; fault.place(), place);
+    Ok(())
 }
 
 /// Each store has the fault, at the place that stands beside it.
 fn finds_in_each(rt: &impl Abort, number: u8, cases: &[(Store, u32)]) -> Result<(), Fail> {
-    for case in cases {
-        let (store, place) = *case;
-        finds(rt, store.numbers, &store.slots, number, place)?;
+    for (store, place) in cases {
+        finds(rt, store.numbers, &store.slots, number, *place)?;
     }
     Ok(())
 }

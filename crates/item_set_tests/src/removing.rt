@@ -77,17 +77,13 @@ fn a_slot_that_gives_no_item_stays_as_it_is(rt: HostRuntime) -> Result<(), Fail>
     let before = Store::new(3, 2, 1, [held(10), vacant(S), held(30), held(40)]);
     // vacant, past `used`, no slot
     for slot in [1, 3, 4, 4294967294, S] {
-        let answer = None;
-        let after = before;
-        answers(
-            &rt,
-            Case {
-                before,
-                slot,
-                answer,
-                after,
-            },
-        )?;
+        let case = Case {
+            before,
+            slot,
+            answer: None,
+            after: before,
+        };
+        answers(&rt, case)?;
     }
     Ok(())
 }

@@ -42,11 +42,6 @@ pub fn vacant(next: u32) -> ItemSlot<u32> {
 }
 
 /// A scratch of four places.
-pub fn scratch([a, b, c, d]: [u32; 4]) -> [ItemIndex; 4] {
-    [
-        ItemIndex::new(a),
-        ItemIndex::new(b),
-        ItemIndex::new(c),
-        ItemIndex::new(d),
-    ]
+pub fn scratch(places: [u32; 4]) -> [ItemIndex; 4] {
+    places.map(ItemIndex::new)
 }

@@ -1,10 +1,8 @@
-use Rattle.std.proofs.Common.{◌≡◌, ℕ, ◌+◌, ◌<◌, ◌++◌, length, take, drop, set, sym, ap, ◌∙◌, arith}
+use Rattle.std.proofs.Common.{ℕ, ◌+◌, ◌<◌, length, take, drop, set, sym, ap, ◌∙◌, arith}
 use Rattle.std.proofs.lemmas.List.{drop-set-lt}
-use Rattle.item_set.specs.Slots.{occupied}
-use Rattle.item_set.specs.Compact.{new_numbers, packed}
 use Rattle.item_set.proofs.Packing.{count_more, number_item, number_vacant, pack_item, pack_vacant, drop_on, read_on}
-use Rattle.item_set.proofs.compaction.move_down.Goals as goal
-use Rattle.item_set.proofs.compaction.move_down.Goals.{in-Occupied, in-Vacant}
+use Rattle.item_set.proofs.compaction.pack.Goals as goal
+use Rattle.item_set.proofs.compaction.pack.Goals.{in-Occupied, in-Vacant}
 
 pub loop-at-preserved : goal.loop-at-preserved
 loop-at-preserved g c =
@@ -31,14 +29,3 @@ loop-at-preserved g c =
         w.scratch-is ∙ number_vacant old k slot inside read c.loop-at.scratch was n long c.loop-at.invariant.0 c.loop-at.invariant.4 _ w.in-Vacant.is,
       )
     ]
-
-pub returns : goal.returns
-returns g c =
-    let e : c.loop-at.at ≡ c.args.end = omega arith in
-    let old = c.args.slots.now in
-    record {
-      answer = c.loop-at.invariant.0 ∙ ap (λ (k : ℕ). occupied (take k old)) e;
-      front = c.loop-at.invariant.2 ∙ ap (λ (k : ℕ). packed (take k old)) e;
-      back = ap (λ (k : ℕ). drop k c.loop-at.slots) (sym e) ∙ c.loop-at.invariant.3 ∙ ap (λ (k : ℕ). drop k old) e;
-      scratch = c.loop-at.invariant.4 ∙ ap (λ (k : ℕ). new_numbers 0 (take k old) ++ drop k c.args.scratch.now) e;
-    }

@@ -1,7 +1,7 @@
 use Rattle.std.proofs.Common.{◌≡◌, ◌≤◌, ◌++◌, take, drop}
 use Rattle.item_set.specs.Slots.{occupied}
 use Rattle.item_set.specs.Compact.{new_numbers, packed}
-use Rattle.item_set.proofs.compaction.move_down.Given as goal
+use Rattle.item_set.proofs.compaction.pack.Given as goal
 
 -- the slots before `at` are numbered and packed, the others are as they were
 abbrev pub invariant-loop-at : goal.invariant-loop-at
