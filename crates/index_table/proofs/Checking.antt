@@ -1,9 +1,9 @@
 -- What the looks at one entry say, and why ascending entries pass every test.
-use Rattle.std.proofs.Common.{◌≡◌, ℕ, zero, suc, ◌-◌, ◌<◌, Bool, false, not, List, [], ◌∷◌, length, take, is_some, Option, Ordering, Less, sym, refl, ap, ◌∙◌, arith}
+use Rattle.std.proofs.Common.{◌==◌, ◌||◌, true, cond, ◌≡◌, ℕ, zero, suc, ◌<◌, Bool, false, not, List, [], ◌∷◌, length, take, is_some, Ordering, Less, refl, ap, ◌∙◌, arith}
 use Rattle.std.proofs.lemmas.Bool.{cond-false, ne_eqb}
+use Rattle.std.specs.List.{list_any}
 use Rattle.id_ord_item.specs.Order.{LawfulOrder}
 use Rattle.item_set.specs.Slots.{at, held}
-use Rattle.item_set.specs.declared.index.ItemIndex.{ItemIndex}
 use Rattle.item_set.specs.declared.slot.ItemSlot.{ItemSlot}
 use Rattle.item_set.specs.declared.slot.ItemSlot.TheVariants.{Occupied, Vacant}
 use Rattle.index_table.specs.Check.{entry_at, named, repeats, is_item, nameless}
@@ -11,25 +11,28 @@ use Rattle.index_table.specs.Walk.{seen, Below, Ascending}
 use Rattle.index_table.specs.declared.entry.Index.{Index}
 use Rattle.index_table.proofs.Walking.{Names}
 
-pub repeats_read : (es : List Index) (p : ℕ) (i : ItemIndex) (b : Bool) → i ≡ (entry_at es p).0 → b ≡ named i.0 (take (p - 0) es) → repeats es p ≡ b
-repeats_read es p i b is found =
-    let same : p ≡ p - 0 = omega arith in
-    ap (λ (j : ItemIndex). named j.0 (take p es)) (sym is) ∙ ap (λ (n : ℕ). named i.0 (take n es)) same ∙ sym found
+-- a slot is named if some entry is equal to the one that names it
+named_is : (n : ℕ) (es : List Index) → named n es ≡ list_any (λ e. e.0.0 == n) es
+named_is n [] = refl
+named_is n (e ∷ es) = ap (cond (e.0.0 == n) true) (named_is n es) ∙ choice (e.0.0 == n) (list_any (λ (e : Index). e.0.0 == n) es)
+  where
+    choice : (a b : Bool) → cond a true b ≡ (a || b)
+    choice true b = refl
+    choice false b = refl
+
+pub repeats_if : (es : List Index) (k : ℕ) (b : Bool) → list_any (λ e. e.0.0 == (entry_at es k).0.0) (take k es) ≡ b → repeats es k ≡ b
+repeats_if es k b found = named_is (entry_at es k).0.0 (take k es) ∙ found
 
 module _ {T : Type 0} where
-  item_held : (slot : ItemSlot T) → is_item slot ≡ is_some (held slot)
+  pub item_held : (slot : ItemSlot T) → is_item slot ≡ is_some (held slot)
   item_held (Occupied x) = refl
   item_held (Vacant next) = refl
-
-  pub nameless_read : (slots : List (ItemSlot T)) (es : List Index) (p : ℕ) (i : ItemIndex) (o : Option T) (b : Bool) → i ≡ (entry_at es p).0 → o ≡ held (at slots i.0) → is_some o ≡ b → nameless slots es p ≡ not b
-  nameless_read slots es p i o b is read some =
-      ap not (item_held (seen slots (entry_at es p)) ∙ ap (λ (j : ItemIndex). is_some (held (at slots j.0))) (sym is) ∙ ap is_some (sym read) ∙ some)
 
 -- each place names its item
 module _ {T : Type 0} {order : T → T → Ordering} (lawful : LawfulOrder order) (slots : List (ItemSlot T)) where
   pub none_nameless : (es : List Index) (w : List T) (k : ℕ) → Names slots es w → k < length es → nameless slots es k ≡ false
   none_nameless [] w k names inside = absurd (omega arith)
-  none_nameless (e ∷ es) [] k names inside = let z : ◌≡◌ {A = ℕ} 0 1 = cc in absurd (omega arith)
+  none_nameless (e ∷ es) [] k names inside = cc
   none_nameless (e ∷ es) (x ∷ w) zero names inside = let here : seen slots e ≡ Occupied x = cc in ap (λ (s : ItemSlot T). not (is_item s)) here
   none_nameless (e ∷ es) (x ∷ w) (suc k) names inside = let rest : Names slots es w = cc in none_nameless es w k rest (omega arith)
 
@@ -40,13 +43,13 @@ module _ {T : Type 0} {order : T → T → Ordering} (lawful : LawfulOrder order
       let one : y ≡ x = cc in
       let equal = ap (order y) one ∙ less in
       let itself = lawful.reflexive y in
-      let z : ◌≡◌ {A = ℕ} 0 1 = cc in omega arith
+      cc
 
   -- so the earlier entries do not name the slot of a later one
   earlier : (n : ℕ) (es : List Index) (w : List T) (k : ℕ) → Names slots es w → Ascending order w → k < length es → n ≡ (entry_at es k).0.0 → named n (take k es) ≡ false
   earlier n es w zero names ascending inside is = refl
   earlier n [] w (suc k) names ascending inside is = absurd (omega arith)
-  earlier n (e ∷ es) [] (suc k) names ascending inside is = let z : ◌≡◌ {A = ℕ} 0 1 = cc in absurd (omega arith)
+  earlier n (e ∷ es) [] (suc k) names ascending inside is = cc
   earlier n (e ∷ es) (y ∷ w) (suc k) names ascending inside is =
       let here : seen slots e ≡ Occupied y = cc in let rest : Names slots es w = cc in
       cond-false _ _ _ (ne_eqb e.0.0 n (other e y es w k here rest ascending.0 (omega arith) is))
@@ -54,7 +57,7 @@ module _ {T : Type 0} {order : T → T → Ordering} (lawful : LawfulOrder order
     where
       other : (e : Index) (y : T) (es : List Index) (w : List T) (k : ℕ) → seen slots e ≡ Occupied y → Names slots es w → Below order y w → k < length es → n ≡ (entry_at es k).0.0 → e.0.0 ≡ n → ⊥
       other e y [] w k here names below inside is same = omega arith
-      other e y (f ∷ es) [] k here names below inside is same = let z : ◌≡◌ {A = ℕ} 0 1 = cc in omega arith
+      other e y (f ∷ es) [] k here names below inside is same = cc
       other e y (f ∷ es) (x ∷ w) zero here names below inside is same =
           let there : seen slots f ≡ Occupied x = cc in apart n x y e here (ap (at slots) is ∙ there) below.0 same
       other e y (f ∷ es) (x ∷ w) (suc k) here names below inside is same =

@@ -1,11 +1,12 @@
 -- The place of a key among ascending items, and the slot that holds it.
-use Rattle.std.proofs.Common.{◌≡◌, ℕ, zero, suc, ◌<◌, ◌≤◌, List, [], ◌∷◌, map, length, get_or, Some, None, Ok, Err, Option, Result, Ordering, Less, Equal, Greater, sym, refl, ap, ◌∙◌, subst, arith}
+use Rattle.std.proofs.Common.{◌≡◌, ℕ, zero, suc, ◌<◌, ◌≤◌, List, [], ◌∷◌, map, length, get_or, Some, None, Ok, Err, Option, Result, MatchOption, MatchResult, Ordering, Less, Equal, Greater, sym, refl, ap, ◌∙◌, subst, arith}
+use Rattle.std.specs.Result.{result_ok}
 use Rattle.id_ord_item.specs.Order.{LawfulOrder}
 use Rattle.id_ord_item.proofs.Order.{less_swaps, greater_swaps}
 use Rattle.item_set.specs.declared.index.ItemIndex.{ItemIndex}
 use Rattle.item_set.specs.declared.slot.ItemSlot.{ItemSlot}
 use Rattle.item_set.specs.declared.slot.ItemSlot.TheVariants.{Occupied}
-use Rattle.index_table.specs.Search.{Falling, Past, Sought, answers_of}
+use Rattle.index_table.specs.Search.{Falling, Past, Sought, answers_of, answer_at}
 use Rattle.index_table.specs.Walk.{seen, walk, Named, Below, Ascending, counting, smaller, if_equal, if_holds, slot_of}
 use Rattle.index_table.specs.declared.entry.Index.{Index}
 use Rattle.index_table.proofs.Walking.{Names, names_length, answers_named}
@@ -80,7 +81,7 @@ module _ {T : Type 0} {order : T → T → Ordering} (lawful : LawfulOrder order
     pub slot_found : (entries : List Index) (w : List T) (p : ℕ) (d : Index) → Names slots entries w → p < length entries → Past (λ n. get_or (map (order x) w) n Less) p
         → get_or (map (order x) w) p Less ≡ Equal → slot_of order x slots entries ≡ Some (get_or entries p d).0
     slot_found [] w p d named inside past here = absurd (omega arith)
-    slot_found (e ∷ entries) [] p d named inside past here = let z : ◌≡◌ {A = ℕ} 0 1 = cc in absurd (omega arith)
+    slot_found (e ∷ entries) [] p d named inside past here = cc
     slot_found (e ∷ entries) (y ∷ w) zero d named inside past here =
         let holds : seen slots e ≡ Occupied y = cc in hold e y Equal (slot_of order x slots entries) holds here
     slot_found (e ∷ entries) (y ∷ w) (suc p) d named inside past here =
@@ -91,7 +92,7 @@ module _ {T : Type 0} {order : T → T → Ordering} (lawful : LawfulOrder order
     -- after an item that x is Less than, none is Equal to x
     none_equal : (y : T) (entries : List Index) (w : List T) → Names slots entries w → Below order y w → order x y ≡ Less → slot_of order x slots entries ≡ None
     none_equal y [] w named below less = refl
-    none_equal y (e ∷ entries) [] named below less = let z : ◌≡◌ {A = ℕ} 0 1 = cc in absurd (omega arith)
+    none_equal y (e ∷ entries) [] named below less = cc
     none_equal y (e ∷ entries) (z ∷ w) named below less =
         let holds : seen slots e ≡ Occupied z = cc in let rest : Names slots entries w = cc in
         hold e z Less (slot_of order x slots entries) holds (lawful.transitive x y z less below.0)
@@ -100,7 +101,7 @@ module _ {T : Type 0} {order : T → T → Ordering} (lawful : LawfulOrder order
     pub slot_missing : (entries : List Index) (w : List T) (p : ℕ) → Names slots entries w → Ascending order w → p ≤ length w → Past (λ n. get_or (map (order x) w) n Less) p
         → (p < length w → get_or (map (order x) w) p Less ≡ Less) → slot_of order x slots entries ≡ None
     slot_missing [] w p named ascending le past here = refl
-    slot_missing (e ∷ entries) [] p named ascending le past here = let z : ◌≡◌ {A = ℕ} 0 1 = cc in absurd (omega arith)
+    slot_missing (e ∷ entries) [] p named ascending le past here = cc
     slot_missing (e ∷ entries) (y ∷ w) zero named ascending le past here =
         let holds : seen slots e ≡ Occupied y = cc in let rest : Names slots entries w = cc in
         let less = here (omega arith) in
@@ -119,31 +120,31 @@ module _ {T : Type 0} {order : T → T → Ordering} (lawful : LawfulOrder order
   answers : answers_of (order x) slots entries ≡ map (order x) (walk slots entries)
   answers = answers_named slots (order x) entries (walk slots entries) named
 
-  pub falls : Falling (λ n. get_or (answers_of (order x) slots entries) n Less) (length entries)
+  pub falls : Falling (answer_at (order x) slots entries) (length entries)
   falls =
       let P : List Ordering → Type 0 = λ os. Falling (λ n. get_or os n Less) (length entries) in
       let l = long in
       subst P (sym answers) (λ i j lt inside not. falling lawful x (walk slots entries) ascending i j lt (omega arith) not)
 
-  as_items : (r : Result ℕ ℕ) → Sought (λ n. get_or (answers_of (order x) slots entries) n Less) (length entries) r → Sought (λ n. get_or (map (order x) (walk slots entries)) n Less) (length entries) r
+  as_items : (r : Result ℕ ℕ) → Sought (answer_at (order x) slots entries) (length entries) r → Sought (λ n. get_or (map (order x) (walk slots entries)) n Less) (length entries) r
   as_items r s = let P : List Ordering → Type 0 = λ os. Sought (λ n. get_or os n Less) (length entries) r in subst P answers s
 
-  pub slot_at : (p : ℕ) (d : Index) → Sought (λ n. get_or (answers_of (order x) slots entries) n Less) (length entries) (Ok p) → slot_of order x slots entries ≡ Some (get_or entries p d).0
-  slot_at p d s = let t = as_items (Ok p) s in slot_found lawful x slots entries (walk slots entries) p d named t.0 t.1 t.2
-
-  pub no_slot : (p : ℕ) → Sought (λ n. get_or (answers_of (order x) slots entries) n Less) (length entries) (Err p) → slot_of order x slots entries ≡ None
-  no_slot p s =
+  pub slot_is : (r : Result ℕ ℕ) (found : Option ℕ) (slot : Option ItemIndex) (d : Index) → Sought (answer_at (order x) slots entries) (length entries) r
+      → found ≡ result_ok r → MatchOption found (slot ≡ None) (λ p. slot ≡ Some (get_or entries p d).0) → slot ≡ slot_of order x slots entries
+  slot_is (Ok p) None slot d s same is = cc
+  slot_is (Ok p) (Some q) slot d s same is =
+      let t = as_items (Ok p) s in let here : q ≡ p = cc in
+      is ∙ ap (λ (n : ℕ). Some (get_or entries n d).0) here ∙ sym (slot_found lawful x slots entries (walk slots entries) p d named t.0 t.1 t.2)
+  slot_is (Err p) (Some q) slot d s same is = cc
+  slot_is (Err p) None slot d s same is =
       let t = as_items (Err p) s in let l = long in
-      slot_missing lawful x slots entries (walk slots entries) p named ascending (omega arith) t.1 (λ h. t.2 (omega arith))
+      is ∙ sym (slot_missing lawful x slots entries (walk slots entries) p named ascending (omega arith) t.1 (λ h. t.2 (omega arith)))
 
-  pub place_found : (p : ℕ) → Sought (λ n. get_or (answers_of (order x) slots entries) n Less) (length entries) (Ok p) → smaller order x (walk slots entries) ≡ p
-  place_found p s =
-      let t = as_items (Ok p) s in let l = long in
-      smaller_is lawful x (walk slots entries) p ascending (omega arith) t.1
-      (λ h e. let f = t.2 in let z : ◌≡◌ {A = ℕ} 0 1 = cc in absurd (omega arith))
-
-  pub place_missing : (p : ℕ) → Sought (λ n. get_or (answers_of (order x) slots entries) n Less) (length entries) (Err p) → smaller order x (walk slots entries) ≡ p
-  place_missing p s =
-      let t = as_items (Err p) s in let l = long in
-      smaller_is lawful x (walk slots entries) p ascending (omega arith) t.1
-      (λ h e. let f = t.2 (omega arith) in let z : ◌≡◌ {A = ℕ} 0 1 = cc in absurd (omega arith))
+  pub place_is : (r : Result ℕ ℕ) (p : ℕ) → Sought (answer_at (order x) slots entries) (length entries) r
+      → MatchResult r (λ q. p ≡ q) (λ q. p ≡ q) → p ≡ smaller order x (walk slots entries)
+  place_is (Ok q) p s is =
+      let t = as_items (Ok q) s in let l = long in
+      is ∙ sym (smaller_is lawful x (walk slots entries) q ascending (omega arith) t.1 (λ h e. let f = t.2 in cc))
+  place_is (Err q) p s is =
+      let t = as_items (Err q) s in let l = long in
+      is ∙ sym (smaller_is lawful x (walk slots entries) q ascending (omega arith) t.1 (λ h e. let f = t.2 (omega arith) in cc))

@@ -1,5 +1,5 @@
 -- The entries that pass every test are those that name ascending items.
-use Rattle.std.proofs.Common.{◌≡◌, ℕ, zero, suc, ◌-◌, ◌<◌, ◌≤◌, Bool, true, false, not, eqb, List, [], ◌∷◌, length, Some, None, Option, Ordering, sym, refl, ap, ◌∙◌, subst, ap₂, arith}
+use Rattle.std.proofs.Common.{◌≡◌, ℕ, zero, suc, ◌-◌, ◌<◌, ◌≤◌, Bool, true, false, not, eqb, List, [], ◌∷◌, length, Some, None, Option, Ordering, sym, refl, ap, ◌∙◌, ap₂, arith}
 use Rattle.std.proofs.lemmas.Bool.{cond-true, cond-false, eq-eqb, eqb-true, both_ways}
 use Rattle.std.specs.Ordering.{is_gt}
 use Rattle.id_ord_item.specs.Order.{LawfulOrder}
@@ -13,12 +13,12 @@ use Rattle.index_table.specs.declared.entry.Index.{Index}
 use Rattle.index_table.specs.declared.fault.TableFault.TheVariants.{Repeated, NotHeld}
 use Rattle.index_table.proofs.Checking.{none_nameless, none_repeats}
 use Rattle.index_table.proofs.Places.{first_none, from_none, none_from}
-use Rattle.index_table.proofs.Rising.{rising, risen, rises_if}
-use Rattle.index_table.proofs.Walking.{Names, names_walk, named_if_names}
+use Rattle.index_table.proofs.Rising.{rising, risen, ascending_if}
+use Rattle.index_table.proofs.Walking.{Names}
 
 no_other : {F : Type 0} (fault : ℕ → F) (place : Option ℕ) (other : Option F) → or_else fault place other ≡ None → (place ≡ None) × (other ≡ None)
 no_other fault None other e = (refl, e)
-no_other fault (Some k) other e = let z : ◌≡◌ {A = ℕ} 0 1 = cc in absurd (omega arith)
+no_other fault (Some k) other e = cc
 
 if_not : (b : Bool) → not b ≡ false → b ≡ true
 if_not true e = refl
@@ -37,7 +37,7 @@ module _ {T : Type 0} where
       by true t e =
           let rest = (no_other Repeated (first_place (repeats es) (length es) 0) _ (sym (cond-true _ _ _ t) ∙ e)).1 in
           (eqb-true (length es) len t, (no_other NotHeld (first_place (nameless slots es) (length es) 0) None rest).0)
-      by false t e = let f = sym (cond-false _ _ _ t) ∙ e in let z : ◌≡◌ {A = ℕ} 0 1 = cc in absurd (omega arith)
+      by false t e = let f = sym (cond-false _ _ _ t) ∙ e in cc
 
 module _ {T : Type 0} {order : T → T → Ordering} (lawful : LawfulOrder order) (slots : List (ItemSlot T)) where
   -- place by place, each item Greater than the one before
@@ -72,11 +72,7 @@ module _ {T : Type 0} {order : T → T → Ordering} (lawful : LawfulOrder order
       (λ k h. none_from (nameless slots es) (length es) 0 faultless.1 k (omega arith) (omega arith))
       (λ k low h. none_from (unordered order slots es) (length es - 1) 1 in_order k low (omega arith))
       (λ h. first_after (held (seen slots (entry_at es 0)))) in
-      let rises = rises_if lawful slots None es rise in (
-        faultless.0,
-        named_if_names slots es rises.items rises.names,
-        subst (Ascending order) (sym (names_walk slots es rises.items rises.names)) rises.ascending,
-      )
+      let ascending = ascending_if lawful slots es rise in (faultless.0, ascending.0, ascending.1)
     where
       first_after : (item : Option T) → comes_after order None item ≡ true
       first_after None = refl
@@ -86,9 +82,9 @@ module _ {T : Type 0} {order : T → T → Ordering} (lawful : LawfulOrder order
   neighbours : (es : List Index) (w : List T) (k : ℕ) → Names slots es w → Ascending order w → suc k < length es
       → comes_after order (held (seen slots (entry_at es k))) (held (seen slots (entry_at es (suc k)))) ≡ true
   neighbours [] w k names up inside = absurd (omega arith)
-  neighbours (e ∷ es) [] k names up inside = let z : ◌≡◌ {A = ℕ} 0 1 = cc in absurd (omega arith)
+  neighbours (e ∷ es) [] k names up inside = cc
   neighbours (e ∷ []) (x ∷ w) k names up inside = absurd (omega arith)
-  neighbours (e ∷ (f ∷ es)) (x ∷ []) k names up inside = let z : ◌≡◌ {A = ℕ} 0 1 = cc in absurd (omega arith)
+  neighbours (e ∷ (f ∷ es)) (x ∷ []) k names up inside = cc
   neighbours (e ∷ (f ∷ es)) (x ∷ (y ∷ w)) zero names up inside =
       let here : seen slots e ≡ Occupied x = cc in let there : seen slots f ≡ Occupied y = cc in
       ap₂ (λ (s t : ItemSlot T). comes_after order (held s) (held t)) here there

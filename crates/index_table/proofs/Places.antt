@@ -1,10 +1,11 @@
 -- The first place that passes a test.
-use Rattle.std.proofs.Common.{◌≡◌, ℕ, zero, suc, ◌+◌, ◌<◌, ◌≤◌, Bool, true, false, cond, Some, None, Option, sym, refl, ap, ◌∙◌, inl, inr, arith}
+use Rattle.std.proofs.Common.{◌≡◌, ℕ, zero, suc, ◌+◌, ◌-◌, List, length, get_or, MatchOption, ◌<◌, ◌≤◌, Bool, true, false, cond, Some, None, Option, sym, refl, ap, ◌∙◌, inl, inr, arith}
 use Rattle.std.proofs.lemmas.Bool.{cond-true, cond-false, cases_eq}
+use Rattle.std.specs.List.{AllWithin, HoldsAt}
 use Rattle.index_table.specs.Check.{first_place}
 
 no_choice : (b : Bool) (k : ℕ) (other : Option ℕ) → cond b (Some k) other ≡ None → (b ≡ false) × (other ≡ None)
-no_choice true k other e = let z : ◌≡◌ {A = ℕ} 0 1 = cc in absurd (omega arith)
+no_choice true k other e = cc
 no_choice false k other e = (refl, e)
 
 module _ (test : ℕ → Bool) where
@@ -34,3 +35,17 @@ module _ (test : ℕ → Bool) where
         | inl same ↦ ap test (sym same) ∙ both.0
         | inr ne ↦ none_from n (suc k) both.1 i (omega arith) (omega arith)
       ]
+
+-- what a search of the places finds
+pub first_is : (test : ℕ → Bool) (a b n : ℕ) (r : Option ℕ) → b - a ≡ n
+    → MatchOption r ((k : ℕ) → a ≤ k → k < b → test k ≡ false) (λ i. (a ≤ i) × (i < b) × (test i ≡ true) × ((k : ℕ) → a ≤ k → k < i → test k ≡ false))
+    → r ≡ first_place test n a
+first_is test a b n None e none = sym (from_none test n a (λ i low high. none i low (omega arith)))
+first_is test a b n (Some i) e some = let low = some.0 in let high = some.1 in sym (from_found test n a i low (omega arith) some.3 some.2)
+
+-- what a search of the entries finds, each read at its place
+pub first_of : {X : Type 0} (test : X → Bool) (d : X) (xs : List X) (r : Option ℕ)
+    → MatchOption r (AllWithin (λ x. test x ≡ false) xs 0 (length xs)) (λ i. (i < length xs) × HoldsAt (λ x. test x ≡ true) xs i × AllWithin (λ x. test x ≡ false) xs 0 i)
+    → r ≡ first_place (λ k. test (get_or xs k d)) (length xs) 0
+first_of test d xs None none = sym (first_none (λ k. test (get_or xs k d)) (length xs) (λ i inside. none i d (omega arith) inside))
+first_of test d xs (Some i) some = sym (first_found (λ k. test (get_or xs k d)) (length xs) i some.0 (λ k before. some.2 k d (omega arith) before) (some.1 d))

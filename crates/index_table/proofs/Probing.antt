@@ -1,27 +1,29 @@
 -- What one comparison with a place says, for a key that is looked for among the items that entries name.
-use Rattle.std.proofs.Common.{◌≡◌, ℕ, ◌<◌, ◌≤◌, List, length, get_or, Some, None, Ordering, Less, refl, ap, arith}
-use Rattle.std.proofs.lemmas.List.{get_or_past, get_or-map, length-map}
-use Rattle.item_set.specs.Slots.{held}
+use Rattle.std.proofs.Common.{◌≡◌, ℕ, zero, suc, List, [], ◌∷◌, Some, None, Option, MatchOption, Ordering, Less, ◌∙◌, ap}
+use Rattle.item_set.specs.Slots.{at, held}
+use Rattle.item_set.specs.declared.index.ItemIndex.{ItemIndex}
 use Rattle.item_set.specs.declared.slot.ItemSlot.{ItemSlot}
 use Rattle.item_set.specs.declared.slot.ItemSlot.TheVariants.{Occupied, Vacant}
-use Rattle.index_table.specs.Search.{asked, answers_of}
-use Rattle.index_table.specs.Walk.{seen}
+use Rattle.index_table.specs.Search.{asked, answer_at}
+use Rattle.index_table.specs.Walk.{seen, slot_at}
 use Rattle.index_table.specs.declared.entry.Index.{Index}
 
 module _ {T : Type 0} (ask : T → Ordering) where
-  pub asked_held : (slot : ItemSlot T) (x : T) → held slot ≡ Some x → asked ask slot ≡ ask x
-  asked_held (Occupied y) x e = let same : y ≡ x = cc in ap ask same
-  asked_held (Vacant next) x e = let z : ◌≡◌ {A = ℕ} 0 1 = cc in absurd (omega arith)
+  -- with an item as with what is asked of it, else Less
+  pub answer_of : (slot : ItemSlot T) (item : Option T) (o : Ordering) → item ≡ held slot → MatchOption item (o ≡ Less) (λ x. o ≡ ask x) → o ≡ asked ask slot
+  answer_of (Occupied y) None o is answers = cc
+  answer_of (Vacant next) None o is answers = answers
+  answer_of (Occupied y) (Some x) o is answers = let same : x ≡ y = cc in answers ∙ ap ask same
+  answer_of (Vacant next) (Some x) o is answers = cc
 
-  pub asked_vacant : (slot : ItemSlot T) → held slot ≡ None → asked ask slot ≡ Less
-  asked_vacant (Occupied y) e = let z : ◌≡◌ {A = ℕ} 0 1 = cc in absurd (omega arith)
-  asked_vacant (Vacant next) e = refl
-
-  module _ (slots : List (ItemSlot T)) (entries : List Index) where
-    pub answer_at : (place : ℕ) (d : Index) → place < length entries → get_or (answers_of ask slots entries) place Less ≡ asked ask (seen slots (get_or entries place d))
-    answer_at place d inside = get_or-map (λ (e : Index). asked ask (seen slots e)) entries place d Less inside
-
-    pub answer_past : (place : ℕ) → length entries ≤ place → get_or (answers_of ask slots entries) place Less ≡ Less
-    answer_past place past =
-        let n = length-map entries (λ (e : Index). asked ask (seen slots e)) in
-        get_or_past (answers_of ask slots entries) place Less (omega arith)
+  pub answer_is : (slots : List (ItemSlot T)) (entries : List Index) (place : ℕ) (slot : Option ItemIndex) (item : Option T) (o : Ordering)
+      → slot ≡ slot_at entries place → MatchOption slot (item ≡ None) (λ i. item ≡ held (at slots i.0)) → MatchOption item (o ≡ Less) (λ x. o ≡ ask x)
+      → o ≡ answer_at ask slots entries place
+  answer_is slots [] place None None o is holds answers = answers
+  answer_is slots [] place None (Some x) o is holds answers = cc
+  answer_is slots [] place (Some i) item o is holds answers = cc
+  answer_is slots (e ∷ entries) zero None item o is holds answers = cc
+  answer_is slots (e ∷ entries) zero (Some i) item o is holds answers =
+      let same : i ≡ e.0 = cc in
+      answer_of (seen slots e) item o (holds ∙ ap (λ (j : ItemIndex). held (at slots j.0)) same) answers
+  answer_is slots (e ∷ entries) (suc place) slot item o is holds answers = answer_is slots entries place slot item o is holds answers

@@ -1,16 +1,15 @@
 -- Entries that each name an item Greater than the one before, looked at one by one.
-use Rattle.std.proofs.Common.{◌≡◌, ℕ, Bool, true, false, cond, List, [], ◌∷◌, Some, None, Option, Ordering, Less, Equal, Greater, refl, ap, ◌∙◌, arith}
+use Rattle.std.proofs.Common.{◌≡◌, Bool, true, false, cond, List, [], ◌∷◌, Some, None, Option, Ordering, Less, Equal, Greater, sym, refl, ap, ◌∙◌, subst}
 use Rattle.std.proofs.lemmas.Bool.{cond-true}
 use Rattle.std.specs.Ordering.{is_gt}
 use Rattle.id_ord_item.specs.Order.{LawfulOrder}
 use Rattle.id_ord_item.proofs.Order.{less_swaps, greater_swaps}
-use Rattle.item_set.specs.Slots.{held}
 use Rattle.item_set.specs.declared.slot.ItemSlot.{ItemSlot}
 use Rattle.item_set.specs.declared.slot.ItemSlot.TheVariants.{Occupied, Vacant}
 use Rattle.index_table.specs.Check.{followed}
-use Rattle.index_table.specs.Walk.{seen, Below, Ascending}
+use Rattle.index_table.specs.Walk.{seen, walk, Named, Below, Ascending}
 use Rattle.index_table.specs.declared.entry.Index.{Index}
-use Rattle.index_table.proofs.Walking.{Names}
+use Rattle.index_table.proofs.Walking.{Names, names_walk, named_if_names}
 
 module _ {T : Type 0} (order : T → T → Ordering) (slots : List (ItemSlot T)) where
   abbrev pub risen : ItemSlot T → Option T → (T → Bool) → Bool
@@ -38,12 +37,12 @@ module _ {T : Type 0} (order : T → T → Ordering) (slots : List (ItemSlot T))
     where
       by : (b : Bool) → followed order before x ≡ b → cond b (rest x) false ≡ true → (y : T) × ((Occupied x ≡ Occupied y) × ((followed order before y ≡ true) × (rest y ≡ true)))
       by true t e = (x, (refl, (t, e)))
-      by false t e = let z : ◌≡◌ {A = ℕ} 0 1 = cc in absurd (omega arith)
-  risen_true (Vacant next) before rest e = let z : ◌≡◌ {A = ℕ} 0 1 = cc in absurd (omega arith)
+      by false t e = cc
+  risen_true (Vacant next) before rest e = cc
 
 greater_if : (o : Ordering) → is_gt o ≡ true → o ≡ Greater
-greater_if Less e = let z : ◌≡◌ {A = ℕ} 0 1 = cc in absurd (omega arith)
-greater_if Equal e = let z : ◌≡◌ {A = ℕ} 0 1 = cc in absurd (omega arith)
+greater_if Less e = cc
+greater_if Equal e = cc
 greater_if Greater e = refl
 
 module _ {T : Type 0} {order : T → T → Ordering} (lawful : LawfulOrder order) (slots : List (ItemSlot T)) where
@@ -78,21 +77,18 @@ module _ {T : Type 0} {order : T → T → Ordering} (lawful : LawfulOrder order
 
   pub rising_if : (before : Option T) (entries : List Index) (w : List T) → Names slots entries w → Ascending order w → Above order slots before w → rising order slots before entries ≡ true
   rising_if before [] w named ascending above = refl
-  rising_if before (e ∷ entries) [] named ascending above = let z : ◌≡◌ {A = ℕ} 0 1 = cc in absurd (omega arith)
+  rising_if before (e ∷ entries) [] named ascending above = cc
   rising_if before (e ∷ entries) (x ∷ w) named ascending above =
       let here : seen slots e ≡ Occupied x = cc in let rest : Names slots entries w = cc in
       ap (λ (s : ItemSlot T). risen order slots s before (λ y. rising order slots (Some y) entries)) here
       ∙ cond-true _ _ _ (followed_if before x w above)
       ∙ rising_if (Some x) entries w rest ascending.1 ascending.0
 
--- one entry, by the item that its slot holds
-module _ {T : Type 0} (order : T → T → Ordering) (slots : List (ItemSlot T)) (before : Option T) (rest : T → Bool) where
-  pub risen_vacant : (slot : ItemSlot T) → held slot ≡ None → risen order slots slot before rest ≡ false
-  risen_vacant (Occupied x) e = let z : ◌≡◌ {A = ℕ} 0 1 = cc in absurd (omega arith)
-  risen_vacant (Vacant next) e = refl
+  -- entries are rising just where they name ascending items
+  pub ascending_if : (entries : List Index) → rising order slots None entries ≡ true → Named slots entries × Ascending order (walk slots entries)
+  ascending_if entries up =
+      let rises = rises_if None entries up in
+      (named_if_names slots entries rises.items rises.names, subst (Ascending order) (sym (names_walk slots entries rises.items rises.names)) rises.ascending)
 
-  pub risen_item : (slot : ItemSlot T) (x : T) (b : Bool) → held slot ≡ Some x → followed order before x ≡ b → risen order slots slot before rest ≡ cond b (rest x) false
-  risen_item (Occupied y) x b e f =
-      let same : y ≡ x = cc in
-      ap (λ (z : T). cond (followed order before z) (rest z) false) same ∙ ap (λ (c : Bool). cond c (rest x) false) f
-  risen_item (Vacant next) x b e f = let z : ◌≡◌ {A = ℕ} 0 1 = cc in absurd (omega arith)
+  pub rising_if_ascending : (entries : List Index) → Named slots entries → Ascending order (walk slots entries) → rising order slots None entries ≡ true
+  rising_if_ascending entries named ascending = rising_if None entries (walk slots entries) named ascending tt

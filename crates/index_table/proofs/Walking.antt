@@ -13,15 +13,15 @@ module _ {T : Type 0} (slots : List (ItemSlot T)) where
 
   pub names_length : (entries : List Index) (w : List T) → Names entries w → length w ≡ length entries
   names_length [] [] named = refl
-  names_length [] (x ∷ w) named = let z : ◌≡◌ {A = ℕ} 0 1 = cc in absurd (omega arith)
-  names_length (e ∷ entries) [] named = let z : ◌≡◌ {A = ℕ} 0 1 = cc in absurd (omega arith)
+  names_length [] (x ∷ w) named = cc
+  names_length (e ∷ entries) [] named = cc
   names_length (e ∷ entries) (x ∷ w) named = let rest : Names entries w = cc in ap suc (names_length entries w rest)
 
   -- they are the walk
   pub names_walk : (entries : List Index) (w : List T) → Names entries w → walk slots entries ≡ w
   names_walk [] [] named = refl
-  names_walk [] (x ∷ w) named = let z : ◌≡◌ {A = ℕ} 0 1 = cc in absurd (omega arith)
-  names_walk (e ∷ entries) [] named = let z : ◌≡◌ {A = ℕ} 0 1 = cc in absurd (omega arith)
+  names_walk [] (x ∷ w) named = cc
+  names_walk (e ∷ entries) [] named = cc
   names_walk (e ∷ entries) (x ∷ w) named =
       let here : seen slots e ≡ Occupied x = cc in let rest : Names entries w = cc in
       ap (λ (s : ItemSlot T). onto s (walk slots entries)) here ∙ ap (λ (l : List T). x ∷ l) (names_walk entries w rest)
@@ -31,8 +31,8 @@ module _ {T : Type 0} (slots : List (ItemSlot T)) where
 
   pub answers_named : (ask : T → Ordering) (entries : List Index) (w : List T) → Names entries w → answers_of ask slots entries ≡ map ask w
   answers_named ask [] [] named = refl
-  answers_named ask [] (x ∷ w) named = let z : ◌≡◌ {A = ℕ} 0 1 = cc in absurd (omega arith)
-  answers_named ask (e ∷ entries) [] named = let z : ◌≡◌ {A = ℕ} 0 1 = cc in absurd (omega arith)
+  answers_named ask [] (x ∷ w) named = cc
+  answers_named ask (e ∷ entries) [] named = cc
   answers_named ask (e ∷ entries) (x ∷ w) named =
       let here : seen slots e ≡ Occupied x = cc in let rest : Names entries w = cc in
       ap (λ (s : ItemSlot T). asked ask s ∷ answers_of ask slots entries) here ∙ ap (λ (l : List Ordering). ask x ∷ l) (answers_named ask entries w rest)
@@ -47,3 +47,5 @@ pub slot_at_read : (entries : List Index) (k : ℕ) (d : Index) → k < length e
 slot_at_read [] k d inside = absurd (omega arith)
 slot_at_read (e ∷ entries) zero d inside = refl
 slot_at_read (e ∷ entries) (suc k) d inside = slot_at_read entries k d (omega arith)
+
+pub ruleset slots_at = (slot_at_past, slot_at_read)

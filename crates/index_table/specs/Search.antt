@@ -1,9 +1,10 @@
 -- Looking for a place, by how what is looked for compares with each place.
---     Falling answers n               of the first n places: before one that is not Less, all are Greater
---     Sought answers n r              r is the first of the first n places that is not Greater: Ok if it is Equal, else Err
---     asked ask slot                  how what is looked for compares with a slot's item; with a vacant slot, Less
---     answers_of ask slots entries    the same for the slot that each entry names
---     HasKey ask slots entries i      an entry names slot i, and what is looked for is Equal to its item
+--     Falling answers n                of the first n places: before one that is not Less, all are Greater
+--     Sought answers n r               r is the first of the first n places that is not Greater: Ok if it is Equal, else Err
+--     asked ask slot                   how what is looked for compares with a slot's item; with a vacant slot, Less
+--     answers_of ask slots entries     the same for the slot that each entry names
+--     answer_at ask slots entries k    the answer at a place; Less past the entries
+--     HasKey ask slots entries i       an entry names slot i, and what is looked for is Equal to its item
 use Rattle.std.specs.Prelude.{◌≡◌, ℕ, ◌<◌, ◌≤◌, List, map, length, Ok, Err, Result, ◌≢◌, slice_index_or}
 use Rattle.std.specs.declared.cmp.Ordering.TheVariants.{Less, Equal, Greater}
 use Rattle.std.specs.declared.cmp.Ordering.{Ordering}
@@ -32,6 +33,9 @@ module _ {T : Type 0} (ask : T → Ordering) where
 
   abbrev pub answers_of : List (ItemSlot T) → List Index → List Ordering
   answers_of slots entries = map (λ e. asked (seen slots e)) entries
+
+  abbrev pub answer_at : List (ItemSlot T) → List Index → ℕ → Ordering
+  answer_at slots entries k = slice_index_or (answers_of slots entries) k Less
 
   abbrev pub HasKey : List (ItemSlot T) → List Index → ItemIndex → Type 0
   HasKey slots entries i =

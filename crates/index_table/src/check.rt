@@ -9,17 +9,13 @@ ghost use Rattle.item_set.specs.Chain.{unless};
 use crate::entry::Index;
 use crate::fault::TableFault;
 use id_ord_item::IdOrdItem;
-use item_set::{ItemIndex, ItemSlot, item_at};
-use std::cmp::Ordering;
+use item_set::{ItemSlot, item_at};
 
 /// Whether an item is Greater than the one before it, if there is one.
 fn follows<T: IdOrdItem>(before: Option<T>, item: T) -> bool
     ensures { result ≡ followed T.IdOrdItem.order before item }
 {
-    match before {
-        None => true,
-        Some(last) => item.compare(&last) == Ordering::Greater,
-    }
+    before.is_none_or(|last| item.compare(&last).is_gt())
 }
 
 /// Whether every entry names an item and the items ascend, each Less than the next. It takes one pass.
@@ -40,40 +36,20 @@ pub fn ascends<T: IdOrdItem>(slots: &[ItemSlot<T>], entries: &[Index]) -> bool
     true
 }
 
-/// Whether an entry names a slot.
-fn names(entries: &[Index], slot: ItemIndex) -> bool
-    ensures { result ≡ named slot.0 entries.now }
-{
-    for entry in entries {
-        if entry.value().as_u32() == slot.as_u32() {
-            return true;
-        }
-    }
-    false
-}
-
 /// The first place that names the slot of an earlier place.
 fn first_repeat(entries: &[Index]) -> Option<usize>
     ensures { result ≡ first_place (repeats entries.now) (length entries.now) 0 }
 {
-    for place in 0..entries.len() {
-        if names(&entries[0..place], entries[place].value()) {
-            return Some(place);
-        }
-    }
-    None
+    (0..entries.len()).find(|&place| entries[..place].contains(&entries[place]))
 }
 
 /// The first place that names no item.
 fn first_nameless<T: Copy>(slots: &[ItemSlot<T>], entries: &[Index]) -> Option<usize>
     ensures { result ≡ first_place (nameless slots.now entries.now) (length entries.now) 0 }
 {
-    for place in 0..entries.len() {
-        if item_at(slots, entries[place].value()).is_none() {
-            return Some(place);
-        }
-    }
-    None
+    entries
+        .iter()
+        .position(|entry| item_at(slots, entry.value()).is_none())
 }
 
 /// Checks that there are `len` entries, that none repeats a slot and that each names an item.
@@ -107,20 +83,12 @@ pub fn validate<T: IdOrdItem>(
 fn comes_after<T: IdOrdItem>(slots: &[ItemSlot<T>], before: Index, here: Index) -> bool
     ensures { result ≡ comes_after T.IdOrdItem.order (held (seen slots.now before)) (held (seen slots.now here)) }
 {
-    match item_at(slots, here.value()) {
-        None => true,
-        Some(item) => follows(item_at(slots, before.value()), item),
-    }
+    item_at(slots, here.value()).is_none_or(|item| follows(item_at(slots, before.value()), item))
 }
 
 /// The first place whose item is not Greater than the one at the place before.
 pub fn first_unordered<T: IdOrdItem>(slots: &[ItemSlot<T>], entries: &[Index]) -> Option<usize>
     ensures { result ≡ first_unordered T.IdOrdItem.order slots.now entries.now }
 {
-    for place in 1..entries.len() {
-        if !comes_after(slots, entries[place - 1], entries[place]) {
-            return Some(place);
-        }
-    }
-    None
+    (1..entries.len()).find(|&place| !comes_after(slots, entries[place - 1], entries[place]))
 }

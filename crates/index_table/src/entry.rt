@@ -44,16 +44,11 @@ impl Index {
     {
         self.0
     }
-}
 
-impl Index {
     /// The entry with its slot's new number, where it has one.
     pub(crate) fn remap(self, remap: &IndexRemap, scratch: &[ItemIndex]) -> Index
         ensures { result ≡ renumbered remap.now scratch.now self }
     {
-        match remap.remap(scratch, self.0) {
-            Ok(new) => Index(new),
-            Err(_) => self,
-        }
+        remap.remap(scratch, self.0).map_or(self, Index)
     }
 }

@@ -26,6 +26,7 @@ pub fn search<P: Probe>(probe: &P, len: usize) -> Result<usize, usize>
     ensures any { MatchResult result (λ p. (p < len) × (P.Probe.answers probe.now p ≡ Equal)) (λ p. p ≤ len) }
     ensures place { Falling (P.Probe.answers probe.now) len → Sought (P.Probe.answers probe.now) len result }
 {
+    // A slice's `binary_search_by` does not say which places it compares, and a probe is no slice.
     let mut low = 0;
     let mut high = len;
     while low < high {

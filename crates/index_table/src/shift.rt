@@ -8,30 +8,28 @@ use item_set::{IndexRemap, ItemIndex};
 /// Puts an entry at a place of the first `len` entries; those from the place on go one up.
 ///
 /// Nothing is written where the place is past `len`, or the table has no room for one entry more.
+#[tactic(auto, using(crate::proofs::Shifting::opened_is))]
 pub fn open_place(table: &mut [Index], len: usize, place: usize, entry: Index)
     ensures { table.new ≡ opened table.old len place entry }
 {
     if len >= table.len() || place > len {
         return;
     }
-    for at in (place..len).rev() {
-        table[at + 1] = table[at];
-    }
+    table.copy_within(place..len, place + 1);
     table[place] = entry;
 }
 
 /// Takes a place out of the first `len` entries; those after it go one down, and the last place is not written.
 ///
 /// Nothing is written where the place is not below `len`, or the table has fewer entries than that.
+#[tactic(auto, using(crate::proofs::Shifting::closed_is))]
 pub fn close_place(table: &mut [Index], len: usize, place: usize)
     ensures { table.new ≡ closed table.old len place }
 {
     if len > table.len() || place >= len {
         return;
     }
-    for at in place..len - 1 {
-        table[at] = table[at + 1];
-    }
+    table.copy_within(place + 1..len, place);
 }
 
 /// Gives each of the first `len` entries its slot's new number, after a compaction.
@@ -40,7 +38,8 @@ pub fn close_place(table: &mut [Index], len: usize, place: usize)
 pub fn remap_indexes(table: &mut [Index], len: usize, remap: &IndexRemap, scratch: &[ItemIndex])
     ensures { table.new ≡ rewritten table.old len remap.now scratch.now }
 {
-    for at in 0..len.min(table.len()) {
-        table[at] = table[at].remap(remap, scratch);
+    let in_use = len.min(table.len());
+    for entry in table[..in_use].iter_mut() {
+        *entry = entry.remap(remap, scratch);
     }
 }

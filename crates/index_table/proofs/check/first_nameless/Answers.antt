@@ -1,16 +1,17 @@
-use Rattle.std.proofs.Common.{false, length, sym, arith}
-use Rattle.index_table.specs.Check.{nameless}
-use Rattle.index_table.proofs.Checking.{nameless_read}
-use Rattle.index_table.proofs.Places.{first_found, first_none}
+use Rattle.std.proofs.Common.{◌≡◌, true, false, not, rules, tests}
+use Rattle.std.proofs.lemmas.Iterator.{IsFirst-from_position, YieldsList-from_slice}
+use Rattle.item_set.specs.Slots.{index_of}
+use Rattle.index_table.specs.Check.{is_item}
+use Rattle.index_table.specs.Entry.{entry_of}
+use Rattle.index_table.specs.Walk.{seen}
+use Rattle.index_table.specs.declared.entry.Index.{Index}
+use Rattle.index_table.proofs.Checking.{item_held}
+use Rattle.index_table.proofs.Places.{first_of}
 use Rattle.index_table.proofs.check.first_nameless.Goals as goal
-
-pub returns-then-is_none : goal.returns-then-is_none
-returns-then-is_none g c =
-    let slots = c.args.slots.now in let es = c.args.entries.now in let p = c.loop-place.place in
-    let here = nameless_read slots es p c.value.result c.item_at.result false c.value.ensures c.item_at.ensures c.if-is_none.ensures in
-    sym (first_found (nameless slots es) (length es) p c.loop-place-test.true c.loop-place.invariant here)
 
 pub returns : goal.returns
 returns g c =
-    let slots = c.args.slots.now in let es = c.args.entries.now in let all = c.loop-place.invariant in
-    sym (first_none (nameless slots es) (length es) (λ i h. all i (omega arith)))
+    let es = c.args.entries.now in let nameless = λ (e : Index). not (is_item (seen c.args.slots.now e)) in
+    first_of nameless (entry_of (index_of 0)) es _
+    (IsFirst-from_position _ _ _ (λ e. nameless e ≡ true) (λ e. nameless e ≡ false) c.position.ensures.ran (YieldsList-from_slice es cc)
+    (λ x q k. search (rules, tests, item_held)) (λ x q k. search (rules, tests, item_held)))
