@@ -1,4 +1,3 @@
-pub mod CodeWord
 pub mod Looking
 pub mod Changing
 pub mod Keeping

@@ -10,7 +10,6 @@ ghost use Rattle.panel_items.specs.Stay.{by_berth_then_from};
 mod answers;
 mod board;
 mod changing;
-mod code_word;
 mod command;
 mod handling;
 mod help;

@@ -16,8 +16,8 @@ use item_set::{CompactRefusal, IndexRemap, ItemIndex, ItemSet, RemapRefusal};
 /// What can be asked of a board's memory.
 #[derive(Clone, Copy)]
 pub enum Upkeep {
-    /// Shrink with so many places of the scratch.
-    Shrink(usize),
+    /// Shrink with so many places of the scratch, or all.
+    Shrink(Option<u32>),
     /// Tell the new number of a slot.
     Remap(ItemIndex),
     Save,
@@ -56,10 +56,11 @@ fn shrink_within<T: IdOrdItem>(
 }
 
 /// Shrinks a board's map, and remembers what became of the slot numbers.
-fn shrink<T: IdOrdItem>(board: &mut Board<'_, T>, places: usize) -> Kempt
+fn shrink<T: IdOrdItem>(board: &mut Board<'_, T>, places: Option<u32>) -> Kempt
     requires sound { Sound T.IdOrdItem.order (view board.old.map) }
     ensures sound { Sound T.IdOrdItem.order (view board.new.map) }
 {
+    let places = places.map_or(board.scratch.len(), |places| places as usize);
     match shrink_within(&mut board.map, board.scratch.as_mut_slice(), places) {
         Ok(remap) => {
             board.remap = remap;
