@@ -1,11 +1,12 @@
 -- What a rule left of a board, as an answer of its map.
---     answered kept      what the map answered, where this is what the rule left
+--     answered result      what the map answered, where this is what the rule left
+use Rattle.std.specs.Prelude.{Ok, Err, Result}
 use Rattle.id_ord_errors.specs.Refusal.{key_other}
+use Rattle.id_ord_errors.specs.declared.replacing.KeyChanged.{KeyChanged}
 use Rattle.id_ord_law.specs.Standing.Answer.{done}
 use Rattle.id_ord_law.specs.Step.{Answered}
 use Rattle.map_panel.specs.declared.keeping.Kept.{Kept}
-use Rattle.map_panel.specs.declared.keeping.Kept.TheVariants.{Items, Refused}
 
-abbrev pub answered : {T : Type 0} → Kept T → Answered T
-answered (Items left removed) = done
-answered (Refused refusal) = key_other refusal
+abbrev pub answered : {T : Type 0} → Result Kept (KeyChanged T) → Answered T
+answered (Ok kept) = done
+answered (Err refusal) = key_other refusal

@@ -1,3 +1,4 @@
+pub mod Refusal
 pub mod Looking
 pub mod Changing
 pub mod Keeping
