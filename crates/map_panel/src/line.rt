@@ -97,7 +97,7 @@ impl<'a> FromWords<'a> for CodeText<'a> {
 
 impl<'a> FromWords<'a> for Sailing {
     fn from_words(words: &mut SplitWhitespace<'a>) -> Result<Sailing, LineFault<'a>> {
-        let code = <CodeText<'_> as FromWords<'_>>::from_words(words)?;
+        let code = CodeText::from_words(words)?;
         Ok(Sailing {
             code: code.code(),
             berth: read_number(words, Field::Berth)?,

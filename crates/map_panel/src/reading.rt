@@ -22,10 +22,10 @@ fn read_end<'a, T, Q>(words: &mut SplitWhitespace<'a>) -> Result<Change<T, Q>, M
 
 /// Reads how many places of the scratch are to be used, if any number is named.
 fn read_places<'a>(words: &mut SplitWhitespace<'a>) -> Result<Option<u32>, Mistake<'a>> {
-    match words.next() {
-        Some(word) => Ok(Some(parse_number(Field::Places, word)?)),
-        None => Ok(None),
-    }
+    words
+        .next()
+        .map(|word| parse_number(Field::Places, word))
+        .transpose()
 }
 
 /// Reads a free head, which may be none.

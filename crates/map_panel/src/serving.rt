@@ -14,20 +14,6 @@ use id_ord_item::{Comparable, KeepRule};
 use item_set::{IndexRemap, ItemIndex};
 use std::{fmt, io};
 
-/// Prints the new number of each slot that was in use before a shrinking.
-fn print_moves(rt: &HostRuntime, remap: IndexRemap, scratch: &[ItemIndex]) -> io::Result<()> {
-    let IndexRemap::Permuted { used } = remap else {
-        return Ok(());
-    };
-    for slot in 0..used {
-        match remap.remap(scratch, ItemIndex::new(slot)) {
-            Ok(new) => println!(rt; "  slot {slot} is slot {} now", new.as_u32())?,
-            Err(_) => println!(rt; "  slot {slot} was vacant")?,
-        }
-    }
-    Ok(())
-}
-
 impl<T: Shown> Board<'_, T> {
     /// Prints what was done, or why it was not.
     fn tell<A: fmt::Display + Drop, E: Into<Refusal<T>>>(
@@ -47,9 +33,24 @@ impl<T: Shown> Board<'_, T> {
     pub fn print_items(&self, rt: &HostRuntime) -> io::Result<()>
         requires sound { Sound T.IdOrdItem.order (view self.now.map) }
     {
+        // A map gives its items by place.
         for place in 0..self.map.len() as usize {
             if let Some(item) = self.map.iter(place) {
                 println!(rt; "  {place}: {}", Whole(item))?;
+            }
+        }
+        Ok(())
+    }
+
+    /// Prints the new number of each slot that was in use before the last shrinking.
+    fn print_moves(&self, rt: &HostRuntime) -> io::Result<()> {
+        let IndexRemap::Permuted { used } = self.remap else {
+            return Ok(());
+        };
+        for slot in 0..used {
+            match self.remap(ItemIndex::new(slot)) {
+                Ok(new) => println!(rt; "  slot {slot} is slot {} now", new.as_u32())?,
+                Err(_) => println!(rt; "  slot {slot} was vacant")?,
             }
         }
         Ok(())
@@ -81,7 +82,7 @@ impl<T: Shown> Board<'_, T> {
                 let kempt = self.keep_up(upkeep);
                 Self::tell(rt, kempt)?;
                 match kempt {
-                    Ok(Kempt::Shrunk(remap)) => print_moves(rt, remap, self.scratch),
+                    Ok(Kempt::Shrunk(_)) => self.print_moves(rt),
                     _ => Ok(()),
                 }
             }

@@ -5,6 +5,7 @@ ghost use Rattle.id_ord_law.specs.Standing.{Call.shrink_to_fit as ShrinkToFit, A
 ghost use Rattle.id_ord_law.specs.Step.{Meets};
 ghost use Rattle.id_ord_map.specs.Fault.{offered, map_fault, adopted};
 ghost use Rattle.id_ord_map.specs.View.{view};
+ghost use Rattle.item_set.specs.Compact.{remapped};
 ghost use Rattle.map_panel.specs.Upkeep.{adopt_answer};
 
 use crate::board::Board;
@@ -81,7 +82,9 @@ impl<T: IdOrdItem> Board<'_, T> {
     }
 
     /// The new number that the last shrinking gave a slot.
-    fn remap(&self, slot: ItemIndex) -> Result<ItemIndex, RemapRefusal> {
+    pub fn remap(&self, slot: ItemIndex) -> Result<ItemIndex, RemapRefusal>
+        ensures { result ≡ remapped self.now.remap self.now.scratch.now slot }
+    {
         self.remap.remap(self.scratch, slot)
     }
 
