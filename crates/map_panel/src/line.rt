@@ -22,13 +22,12 @@ impl<'a> fmt::Display for LineFault<'a> {
     fn fmt<W: fmt::Write>(&self, f: &mut fmt::Formatter<W>) -> fmt::Result {
         match *self {
             LineFault::NotACommand(mistake) => write!(f, "not a command: {mistake}"),
-            LineFault::Long(refusal, word) => {
-                let number = refusal.number();
-                write!(
-                    f,
-                    "refused {number} LONG: CODE is '{word}', over eight letters"
-                )
-            }
+            LineFault::Long(refusal, word) => write!(
+                f,
+                "refused {} LONG: {} is '{word}', over eight letters",
+                refusal.number(),
+                Field::Code
+            ),
         }
     }
 }

@@ -79,7 +79,9 @@ impl<'a> fmt::Display for Mistake<'a> {
             Mistake::NoBoard(word, Some(then)) => {
                 write!(f, "after '{word}' comes '{then}', and not stay or sailing")
             }
-            Mistake::UnknownEnd(word) => write!(f, "END is '{word}', and not first or last"),
+            Mistake::UnknownEnd(word) => {
+                write!(f, "{} is '{word}', and not first or last", Field::End)
+            }
             Mistake::Missing(field) => write!(f, "{field} is missing"),
             Mistake::NotANumber(field, word) => {
                 let largest = field.largest();
