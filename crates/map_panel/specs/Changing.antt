@@ -1,14 +1,17 @@
 -- Changes of a board's items as calls of its map.
 --     call_of meant change    the call that a change makes; meant is the item that a query means
---     answered changed        what the map answered, where this became of a change
+--     answered result         what the map answered, where this became of a change
+use Rattle.std.specs.Prelude.{Ok, Err, Result}
 use Rattle.id_ord_errors.specs.Refusal.{not_inserted}
+use Rattle.id_ord_errors.specs.declared.adding.InsertRefusal.{InsertRefusal}
 use Rattle.id_ord_law.specs.Standing.{Call}
 use Rattle.id_ord_law.specs.Standing.Answer.{done, none, gave}
 use Rattle.id_ord_law.specs.Step.{Answered}
+use Rattle.id_ord_map.specs.Answers.{removed}
 use Rattle.map_panel.specs.declared.changing.Change.{Change}
 use Rattle.map_panel.specs.declared.changing.Change.TheVariants.{Add, Overwrite, Drop, PopFirst, PopLast, Clear}
 use Rattle.map_panel.specs.declared.changing.Changed.{Changed}
-use Rattle.map_panel.specs.declared.changing.Changed.TheVariants.{Added, AddedAnew, Overwritten, Dropped, Nothing, Cleared, Refused}
+use Rattle.map_panel.specs.declared.changing.Changed.TheVariants.{Added, AddedAnew, Overwritten, Dropped, Cleared}
 
 module _ {T : Type 0} where
   abbrev pub call_of : {Q : Type 0} → (Q → T) → Change T Q → Call T
@@ -19,11 +22,10 @@ module _ {T : Type 0} where
   call_of meant PopLast = Call.pop_last
   call_of meant Clear = Call.clear
 
-  abbrev pub answered : Changed T → Answered T
-  answered (Added item) = done
-  answered (AddedAnew item) = none
-  answered (Overwritten old) = gave old
-  answered (Dropped item) = gave item
-  answered Nothing = none
-  answered Cleared = done
-  answered (Refused refusal) = not_inserted refusal
+  abbrev pub answered : Result (Changed T) (InsertRefusal T) → Answered T
+  answered (Ok (Added item)) = done
+  answered (Ok (AddedAnew item)) = none
+  answered (Ok (Overwritten old)) = gave old
+  answered (Ok (Dropped item)) = removed item
+  answered (Ok Cleared) = done
+  answered (Err refusal) = not_inserted refusal

@@ -1,4 +1,4 @@
-pub mod CodeWord
+pub mod Refusal
 pub mod Looking
 pub mod Changing
 pub mod Keeping

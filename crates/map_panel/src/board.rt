@@ -17,21 +17,20 @@ pub struct Board<'m, T: IdOrdItem> {
     pub saved: ItemSet,
     /// What the last shrinking did to the slot numbers, and the scratch that it filled.
     pub remap: IndexRemap,
-    pub scratch: Vec<ItemIndex>,
+    pub scratch: &'m mut [ItemIndex],
 }
 
 impl<'m, T: IdOrdItem> Board<'m, T> {
     /// An empty board over this memory.
-    pub fn new(memory: &'m mut Memory<T>, scratch: Vec<ItemIndex>) -> Board<'m, T>
+    pub fn new(memory: &'m mut Memory<T>) -> Board<'m, T>
         ensures sound { Sound T.IdOrdItem.order (view result.map) }
     {
-        let map = IdOrdMap::new(memory.slots.as_mut_slice(), memory.table.as_mut_slice());
         Board {
-            map,
+            map: IdOrdMap::new(memory.slots.as_mut_slice(), memory.table.as_mut_slice()),
             hand: Hand::Empty,
             saved: ItemSet::new(),
             remap: IndexRemap::Identity,
-            scratch,
+            scratch: memory.scratch.as_mut_slice(),
         }
     }
 }

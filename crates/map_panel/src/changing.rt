@@ -1,8 +1,6 @@
 // Changing the items of a board: adding, overwriting, dropping, popping and clearing.
-ghost use Rattle.std.specs.Prelude.{◌≡◌};
 ghost use Rattle.id_ord_law.specs.Parts.{Sound};
 ghost use Rattle.id_ord_law.specs.Step.{Meets};
-ghost use Rattle.id_ord_map.specs.Answers.{removed};
 ghost use Rattle.id_ord_map.specs.View.{view};
 ghost use Rattle.map_panel.specs.Changing.{call_of, answered};
 
@@ -22,7 +20,7 @@ pub enum Change<T, Q> {
 }
 
 /// What became of a change.
-#[derive(Drop)]
+#[derive(Clone, Copy)]
 pub enum Changed<T> {
     /// The item was added.
     Added(T),
@@ -30,48 +28,37 @@ pub enum Changed<T> {
     AddedAnew(T),
     /// This item stood under the key, and another stands in its place now.
     Overwritten(T),
-    /// This item stood, and is gone.
-    Dropped(T),
-    /// There was no item to drop.
-    Nothing,
+    /// This item stood, if there was one to drop, and is gone.
+    Dropped(Option<T>),
     Cleared,
-    Refused(InsertRefusal<T>),
 }
 
 /// Makes a change, by one call of the map.
 pub fn make_change<T: IdOrdItem, Q: Comparable<T> + Copy>(
     map: &mut IdOrdMap<'_, T>,
     change: Change<T, Q>,
-) -> Changed<T>
+) -> Result<Changed<T>, InsertRefusal<T>>
     requires sound { Sound T.IdOrdItem.order (view map.old) }
     ensures does { Meets T.IdOrdItem.order (call_of Q.Comparable.meant change) (view map.old) (answered result) (view map.new) }
     ensures sound { Sound T.IdOrdItem.order (view map.new) }
 {
-    match change {
-        Change::Add(item) => match map.insert_unique(item) {
-            Ok(()) => Changed::Added(item),
-            Err(refusal) => Changed::Refused(refusal),
-        },
-        Change::Overwrite(item) => match map.insert_overwrite(item) {
-            Ok(None) => Changed::AddedAnew(item),
-            Ok(Some(old)) => Changed::Overwritten(old),
-            Err(refusal) => Changed::Refused(InsertRefusal::Full(refusal)),
-        },
-        Change::Drop(query) => dropped(map.remove(&query)),
-        Change::PopFirst => dropped(map.pop_first()),
-        Change::PopLast => dropped(map.pop_last()),
+    Ok(match change {
+        Change::Add(item) => {
+            map.insert_unique(item)?;
+            Changed::Added(item)
+        }
+        Change::Overwrite(item) => {
+            match map.insert_overwrite(item).map_err(InsertRefusal::Full)? {
+                Some(old) => Changed::Overwritten(old),
+                None => Changed::AddedAnew(item),
+            }
+        }
+        Change::Drop(query) => Changed::Dropped(map.remove(&query)),
+        Change::PopFirst => Changed::Dropped(map.pop_first()),
+        Change::PopLast => Changed::Dropped(map.pop_last()),
         Change::Clear => {
             map.clear();
             Changed::Cleared
         }
-    }
-}
-
-fn dropped<T>(item: Option<T>) -> Changed<T>
-    ensures { answered result ≡ removed item }
-{
-    match item {
-        Some(item) => Changed::Dropped(item),
-        None => Changed::Nothing,
-    }
+    })
 }

@@ -1,11 +1,10 @@
 // What can be asked of the panel.
 use crate::changing::Change;
-use crate::code_word::CodeWord;
 use crate::handling::Handling;
 use crate::looking::Look;
 use crate::upkeep::Upkeep;
 use id_ord_item::KeepFirst;
-use panel_items::{EndedBy, Sailing, Stay, StayAt};
+use panel_items::{CodeText, EndedBy, Sailing, Stay, StayAt};
 
 /// What can be asked of a board of items `T` whose keys are looked for by `Q`.
 #[derive(Drop)]
@@ -22,6 +21,6 @@ pub enum Order<T, Q> {
 #[derive(Drop)]
 pub enum Command<'a> {
     Stays(Order<Stay, StayAt>),
-    Sailings(Order<Sailing, CodeWord<'a>>),
+    Sailings(Order<Sailing, CodeText<'a>>),
     Ended(EndedBy),
 }

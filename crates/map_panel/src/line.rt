@@ -1,7 +1,6 @@
 // Reading the words of a line: numbers, keys and items.
-use crate::code_word::CodeWord;
 use crate::mistake::{Field, Mistake};
-use panel_items::{CodeTextRefusal, Sailing, Stay, StayAt};
+use panel_items::{CodeText, CodeTextRefusal, Sailing, Stay, StayAt};
 use std::fmt;
 use std::str::{FromStr, SplitWhitespace};
 
@@ -13,44 +12,51 @@ pub enum LineFault<'a> {
     Long(CodeTextRefusal, &'a str),
 }
 
+impl<'a> From<Mistake<'a>> for LineFault<'a> {
+    fn from(mistake: Mistake<'a>) -> LineFault<'a> {
+        LineFault::NotACommand(mistake)
+    }
+}
+
 impl<'a> fmt::Display for LineFault<'a> {
     fn fmt<W: fmt::Write>(&self, f: &mut fmt::Formatter<W>) -> fmt::Result {
         match *self {
             LineFault::NotACommand(mistake) => write!(f, "not a command: {mistake}"),
-            LineFault::Long(refusal, word) => {
-                let number = refusal.number();
-                write!(
-                    f,
-                    "refused {number} LONG: CODE is '{word}', over eight letters"
-                )
-            }
+            LineFault::Long(refusal, word) => write!(
+                f,
+                "refused {} LONG: {} is '{word}', over eight letters",
+                refusal.number(),
+                Field::Code
+            ),
         }
     }
 }
 
+/// The next word of a line, which is to be this field.
+pub fn read_word<'a>(
+    words: &mut SplitWhitespace<'a>,
+    field: Field,
+) -> Result<&'a str, Mistake<'a>> {
+    words.next().ok_or(Mistake::Missing(field))
+}
+
 /// A word as a number.
-pub fn parse_number<'a, N: FromStr>(field: Field, word: &'a str) -> Result<N, LineFault<'a>>
+pub fn parse_number<'a, N: FromStr>(field: Field, word: &'a str) -> Result<N, Mistake<'a>>
 where
     N::Err: Drop,
 {
-    match word.parse::<N>() {
-        Ok(number) => Ok(number),
-        Err(_) => Err(LineFault::NotACommand(Mistake::NotANumber(field, word))),
-    }
+    word.parse().map_err(|_| Mistake::NotANumber(field, word))
 }
 
 /// The next word of a line, as a number.
 pub fn read_number<'a, N: FromStr>(
     words: &mut SplitWhitespace<'a>,
     field: Field,
-) -> Result<N, LineFault<'a>>
+) -> Result<N, Mistake<'a>>
 where
     N::Err: Drop,
 {
-    match words.next() {
-        Some(word) => parse_number(field, word),
-        None => Err(LineFault::NotACommand(Mistake::Missing(field))),
-    }
+    parse_number(field, read_word(words, field)?)
 }
 
 /// What can be read from the next words of a line.
@@ -78,23 +84,21 @@ impl<'a> FromWords<'a> for StayAt {
     }
 }
 
-impl<'a> FromWords<'a> for CodeWord<'a> {
-    fn from_words(words: &mut SplitWhitespace<'a>) -> Result<CodeWord<'a>, LineFault<'a>> {
-        let Some(word) = words.next() else {
-            return Err(LineFault::NotACommand(Mistake::Missing(Field::Code)));
-        };
-        match CodeWord::new(word.as_bytes()) {
-            Ok(code) => Ok(code),
-            Err(refusal) => Err(LineFault::Long(refusal, word)),
-        }
+impl<'a> FromWords<'a> for CodeText<'a> {
+    fn from_words(words: &mut SplitWhitespace<'a>) -> Result<CodeText<'a>, LineFault<'a>> {
+        let word = read_word(words, Field::Code)?;
+        let mut code = CodeText::new();
+        code.fill(word.as_bytes())
+            .map_err(|refusal| LineFault::Long(refusal, word))?;
+        Ok(code)
     }
 }
 
 impl<'a> FromWords<'a> for Sailing {
     fn from_words(words: &mut SplitWhitespace<'a>) -> Result<Sailing, LineFault<'a>> {
-        let word = <CodeWord<'_> as FromWords<'_>>::from_words(words)?;
+        let code = CodeText::from_words(words)?;
         Ok(Sailing {
-            code: word.code(),
+            code: code.code(),
             berth: read_number(words, Field::Berth)?,
             due: read_number(words, Field::Due)?,
         })

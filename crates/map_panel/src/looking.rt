@@ -2,7 +2,7 @@
 ghost use Rattle.std.specs.Prelude.{◌≡◌};
 ghost use Rattle.id_ord_law.specs.Parts.{Sound};
 ghost use Rattle.id_ord_map.specs.View.{view};
-ghost use Rattle.map_panel.specs.Looking.{seen_item, seen};
+ghost use Rattle.map_panel.specs.Looking.{seen};
 
 use id_ord_errors::ValidationError;
 use id_ord_item::{Comparable, IdOrdItem};
@@ -22,38 +22,28 @@ pub enum Look<Q> {
 /// What was seen.
 #[derive(Clone, Copy)]
 pub enum Seen<T> {
-    Item(T),
-    Nothing,
+    /// The item looked for, if it stands.
+    Item(Option<T>),
     Count(u32),
     Compact,
-    Fault(ValidationError),
-}
-
-fn seen_item<T>(item: Option<T>) -> Seen<T>
-    ensures { result ≡ seen_item item }
-{
-    match item {
-        Some(item) => Seen::Item(item),
-        None => Seen::Nothing,
-    }
 }
 
 /// Looks at a board.
 pub fn look_at<T: IdOrdItem, Q: Comparable<T> + Copy>(
     map: &IdOrdMap<'_, T>,
     look: Look<Q>,
-) -> Seen<T>
+) -> Result<Seen<T>, ValidationError>
     requires sound { Sound T.IdOrdItem.order (view map.now) }
     ensures { result ≡ seen T.IdOrdItem.order Q.Comparable.meant look (view map.now) }
 {
-    match look {
-        Look::Get(query) => seen_item(map.get(&query)),
-        Look::First => seen_item(map.first()),
-        Look::Last => seen_item(map.last()),
+    Ok(match look {
+        Look::Get(query) => Seen::Item(map.get(&query)),
+        Look::First => Seen::Item(map.first()),
+        Look::Last => Seen::Item(map.last()),
         Look::Len => Seen::Count(map.len()),
-        Look::Check => match map.validate(ValidateCompact::Compact) {
-            Ok(()) => Seen::Compact,
-            Err(fault) => Seen::Fault(fault),
-        },
-    }
+        Look::Check => {
+            map.validate(ValidateCompact::Compact)?;
+            Seen::Compact
+        }
+    })
 }

@@ -1,47 +1,30 @@
-// The memory of a board, made once and lent to its map.
+// The memory of a board, made once and lent to it.
 use id_ord_item::IdOrdItem;
 use index_table::Index;
 use item_set::{ItemIndex, ItemSlot};
 use std::alloc::{AllocError, Global};
 
-/// The memory that a map is lent.
+/// The memory that a board is lent: slots and a table for its map, and scratch for shrinking it.
 #[derive(Drop)]
 pub struct Memory<T> {
     pub slots: Vec<ItemSlot<T>>,
     pub table: Vec<Index>,
-}
-
-/// A table entry to fill a table with.
-fn any_entry() -> Index {
-    match Index::new(ItemIndex::new(0)) {
-        Ok(entry) => entry,
-        Err(_) => unreachable(),
-    }
-}
-
-/// So many copies of a value.
-fn copies<X: Copy>(heap: Global, value: X, count: usize) -> Result<Vec<X>, AllocError> {
-    let mut values = Vec::new(heap);
-    for _ in 0..count {
-        values.push(value)?;
-    }
-    Ok(values)
+    pub scratch: Vec<ItemIndex>,
 }
 
 impl<T: IdOrdItem> Memory<T> {
     /// Memory for so many items.
-    pub fn new(heap: Global, places: usize) -> Result<Memory<T>, AllocError> {
+    pub fn new(heap: Global, places: u32) -> Result<Memory<T>, AllocError> {
         let vacant = ItemSlot::Vacant {
             next: ItemIndex::SENTINEL,
         };
         Ok(Memory {
-            slots: copies(heap, vacant, places)?,
-            table: copies(heap, any_entry(), places)?,
+            slots: vec![in heap; vacant; places as usize]?,
+            // Only SENTINEL has no entry, and no slot is so high.
+            table: (0..places)
+                .filter_map(|slot| Index::new(ItemIndex::new(slot)).ok())
+                .collect(heap)?,
+            scratch: vec![in heap; ItemIndex::SENTINEL; places as usize]?,
         })
     }
-}
-
-/// Scratch for shrinking a map of so many items.
-pub fn scratch(heap: Global, places: usize) -> Result<Vec<ItemIndex>, AllocError> {
-    copies(heap, ItemIndex::SENTINEL, places)
 }

@@ -22,8 +22,18 @@ pub enum Field {
 }
 
 impl Field {
-    fn name(self) -> &'static str {
+    fn largest(self) -> u64 {
         match self {
+            Field::Berth => u64::from(u16::MAX),
+            Field::Vessel => u64::MAX,
+            _ => u64::from(u32::MAX),
+        }
+    }
+}
+
+impl fmt::Display for Field {
+    fn fmt<W: fmt::Write>(&self, f: &mut fmt::Formatter<W>) -> fmt::Result {
+        f.write_str(match self {
             Field::Code => "CODE",
             Field::End => "END",
             Field::Berth => "BERTH",
@@ -39,15 +49,7 @@ impl Field {
             Field::Len => "LEN",
             Field::Head => "HEAD",
             Field::Count => "COUNT",
-        }
-    }
-
-    fn largest(self) -> u64 {
-        match self {
-            Field::Berth => u64::from(u16::MAX),
-            Field::Vessel => u64::MAX,
-            _ => u64::from(u32::MAX),
-        }
+        })
     }
 }
 
@@ -66,42 +68,28 @@ pub enum Mistake<'a> {
     TooMany(&'a str),
 }
 
-fn write_no_board<W: fmt::Write>(
-    f: &mut fmt::Formatter<W>,
-    word: &str,
-    then: Option<&str>,
-) -> fmt::Result {
-    match then {
-        None => write!(f, "after '{word}' no board is named, stay or sailing"),
-        Some(then) => write!(f, "after '{word}' comes '{then}', and not stay or sailing"),
-    }
-}
-
-fn write_not_a_number<W: fmt::Write>(
-    f: &mut fmt::Formatter<W>,
-    field: Field,
-    word: &str,
-) -> fmt::Result {
-    let name = field.name();
-    let largest = field.largest();
-    write!(
-        f,
-        "{name} is '{word}', and not a number from 0 to {largest}"
-    )
-}
-
 impl<'a> fmt::Display for Mistake<'a> {
     fn fmt<W: fmt::Write>(&self, f: &mut fmt::Formatter<W>) -> fmt::Result {
         match *self {
             Mistake::NotText => write!(f, "it is not text"),
             Mistake::UnknownWord(word) => write!(f, "no command begins with '{word}'"),
-            Mistake::NoBoard(word, then) => write_no_board(f, word, then),
-            Mistake::UnknownEnd(word) => write!(f, "END is '{word}', and not first or last"),
-            Mistake::Missing(field) => {
-                let name = field.name();
-                write!(f, "{name} is missing")
+            Mistake::NoBoard(word, None) => {
+                write!(f, "after '{word}' no board is named, stay or sailing")
             }
-            Mistake::NotANumber(field, word) => write_not_a_number(f, field, word),
+            Mistake::NoBoard(word, Some(then)) => {
+                write!(f, "after '{word}' comes '{then}', and not stay or sailing")
+            }
+            Mistake::UnknownEnd(word) => {
+                write!(f, "{} is '{word}', and not first or last", Field::End)
+            }
+            Mistake::Missing(field) => write!(f, "{field} is missing"),
+            Mistake::NotANumber(field, word) => {
+                let largest = field.largest();
+                write!(
+                    f,
+                    "{field} is '{word}', and not a number from 0 to {largest}"
+                )
+            }
             Mistake::TooMany(word) => write!(f, "'{word}' is one word too many"),
         }
     }

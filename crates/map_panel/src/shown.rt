@@ -5,10 +5,13 @@ use std::fmt;
 use std::str::from_utf8;
 
 /// A kind of item that can be shown, whole or by its key.
+///
+/// The items are another crate's, so `Display` is of the two wrappers below, by these methods.
 pub trait Shown: IdOrdItem {
     fn write_key<W: fmt::Write>(&self, f: &mut fmt::Formatter<W>) -> fmt::Result;
 
-    fn write_item<W: fmt::Write>(&self, f: &mut fmt::Formatter<W>) -> fmt::Result;
+    /// Writes what comes after the key.
+    fn write_rest<W: fmt::Write>(&self, f: &mut fmt::Formatter<W>) -> fmt::Result;
 }
 
 /// An item, shown whole.
@@ -21,7 +24,8 @@ pub struct Key<T>(pub T);
 
 impl<T: Shown> fmt::Display for Whole<T> {
     fn fmt<W: fmt::Write>(&self, f: &mut fmt::Formatter<W>) -> fmt::Result {
-        self.0.write_item(f)
+        self.0.write_key(f)?;
+        self.0.write_rest(f)
     }
 }
 
@@ -55,14 +59,9 @@ impl Shown for Stay {
         write!(f, "berth {berth} from {from}")
     }
 
-    fn write_item<W: fmt::Write>(&self, f: &mut fmt::Formatter<W>) -> fmt::Result {
-        let Stay {
-            berth,
-            from,
-            to,
-            vessel,
-        } = *self;
-        write!(f, "berth {berth} from {from} to {to}, vessel {vessel}")
+    fn write_rest<W: fmt::Write>(&self, f: &mut fmt::Formatter<W>) -> fmt::Result {
+        let Stay { to, vessel, .. } = *self;
+        write!(f, " to {to}, vessel {vessel}")
     }
 }
 
@@ -72,9 +71,8 @@ impl Shown for Sailing {
         write!(f, "sailing {code}")
     }
 
-    fn write_item<W: fmt::Write>(&self, f: &mut fmt::Formatter<W>) -> fmt::Result {
-        let Sailing { code, berth, due } = *self;
-        let code = Letters(code);
-        write!(f, "sailing {code}, berth {berth}, due {due}")
+    fn write_rest<W: fmt::Write>(&self, f: &mut fmt::Formatter<W>) -> fmt::Result {
+        let Sailing { berth, due, .. } = *self;
+        write!(f, ", berth {berth}, due {due}")
     }
 }

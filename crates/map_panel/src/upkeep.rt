@@ -5,9 +5,11 @@ ghost use Rattle.id_ord_law.specs.Standing.{Call.shrink_to_fit as ShrinkToFit, A
 ghost use Rattle.id_ord_law.specs.Step.{Meets};
 ghost use Rattle.id_ord_map.specs.Fault.{offered, map_fault, adopted};
 ghost use Rattle.id_ord_map.specs.View.{view};
+ghost use Rattle.item_set.specs.Compact.{remapped};
 ghost use Rattle.map_panel.specs.Upkeep.{adopt_answer};
 
 use crate::board::Board;
+use crate::refusals::Refusal;
 use id_ord_errors::ValidationError;
 use id_ord_item::IdOrdItem;
 use id_ord_map::IdOrdMap;
@@ -16,8 +18,8 @@ use item_set::{CompactRefusal, IndexRemap, ItemIndex, ItemSet, RemapRefusal};
 /// What can be asked of a board's memory.
 #[derive(Clone, Copy)]
 pub enum Upkeep {
-    /// Shrink with so many places of the scratch.
-    Shrink(usize),
+    /// Shrink with so many places of the scratch, or all.
+    Shrink(Option<u32>),
     /// Tell the new number of a slot.
     Remap(ItemIndex),
     Save,
@@ -36,9 +38,6 @@ pub enum Kempt {
     Saved(ItemSet),
     /// The board holds so many items now.
     Adopted(u32),
-    NotShrunk(CompactRefusal),
-    NotMoved(RemapRefusal),
-    NotAdopted(ValidationError),
 }
 
 /// Shrinks a map with so many places of the scratch, or all where it has fewer.
@@ -55,64 +54,63 @@ fn shrink_within<T: IdOrdItem>(
     map.shrink_to_fit(&mut scratch[0..places])
 }
 
-/// Shrinks a board's map, and remembers what became of the slot numbers.
-fn shrink<T: IdOrdItem>(board: &mut Board<'_, T>, places: usize) -> Kempt
-    requires sound { Sound T.IdOrdItem.order (view board.old.map) }
-    ensures sound { Sound T.IdOrdItem.order (view board.new.map) }
-{
-    match shrink_within(&mut board.map, board.scratch.as_mut_slice(), places) {
-        Ok(remap) => {
-            board.remap = remap;
-            Kempt::Shrunk(remap)
-        }
-        Err(refusal) => Kempt::NotShrunk(refusal),
-    }
-}
-
-/// The new number that the last shrinking gave a slot.
-fn remap<T: IdOrdItem>(board: &Board<'_, T>, slot: ItemIndex) -> Kempt {
-    match board.remap.remap(board.scratch.as_slice(), slot) {
-        Ok(new) => Kempt::Moved(new),
-        Err(refusal) => Kempt::NotMoved(refusal),
-    }
-}
-
-/// Remembers a map's numbers.
-fn save<T: IdOrdItem>(board: &mut Board<'_, T>) -> Kempt
-    requires sound { Sound T.IdOrdItem.order (view board.old.map) }
-    ensures sound { Sound T.IdOrdItem.order (view board.new.map) }
-{
-    let numbers = board.map.items();
-    board.saved = numbers;
-    Kempt::Saved(numbers)
-}
-
-/// Has a map start anew with other numbers, if they fit its memory.
-fn adopt<T: IdOrdItem>(map: &mut IdOrdMap<'_, T>, numbers: ItemSet, count: u32) -> Kempt
+/// Has a map start anew with other numbers, if they fit its memory, and answers how many items it holds then.
+fn adopt<T: IdOrdItem>(
+    map: &mut IdOrdMap<'_, T>,
+    numbers: ItemSet,
+    count: u32,
+) -> Result<u32, ValidationError>
     requires sound { Sound T.IdOrdItem.order (view map.old) }
     ensures answer { result ≡ adopt_answer numbers.len (map_fault T.IdOrdItem.order (offered numbers.used numbers.len numbers.free_head (view map.old)) count) }
     ensures after { view map.new ≡ adopted T.IdOrdItem.order (offered numbers.used numbers.len numbers.free_head (view map.old)) count (view map.old) }
     ensures sound { Sound T.IdOrdItem.order (view map.new) }
 {
-    match map.adopt(numbers.used, numbers.len, numbers.free_head, count) {
-        Ok(()) => Kempt::Adopted(numbers.len),
-        Err(fault) => Kempt::NotAdopted(fault),
-    }
+    map.adopt(numbers.used, numbers.len, numbers.free_head, count)?;
+    Ok(numbers.len)
 }
 
-/// Does with a board's memory what is asked.
-pub fn keep_up<T: IdOrdItem>(board: &mut Board<'_, T>, upkeep: Upkeep) -> Kempt
-    requires sound { Sound T.IdOrdItem.order (view board.old.map) }
-    ensures sound { Sound T.IdOrdItem.order (view board.new.map) }
-{
-    match upkeep {
-        Upkeep::Shrink(places) => shrink(board, places),
-        Upkeep::Remap(slot) => remap(board, slot),
-        Upkeep::Save => save(board),
-        Upkeep::Restore => {
-            let saved = board.saved;
-            adopt(&mut board.map, saved, saved.len)
-        }
-        Upkeep::Adopt(numbers, count) => adopt(&mut board.map, numbers, count),
+impl<T: IdOrdItem> Board<'_, T> {
+    /// Shrinks the map, and remembers what became of the slot numbers.
+    fn shrink(&mut self, places: Option<u32>) -> Result<IndexRemap, CompactRefusal>
+        requires sound { Sound T.IdOrdItem.order (view self.old.map) }
+        ensures sound { Sound T.IdOrdItem.order (view self.new.map) }
+    {
+        let places = places.map_or(self.scratch.len(), |places| places as usize);
+        let remap = shrink_within(&mut self.map, self.scratch, places)?;
+        self.remap = remap;
+        Ok(remap)
+    }
+
+    /// The new number that the last shrinking gave a slot.
+    pub fn remap(&self, slot: ItemIndex) -> Result<ItemIndex, RemapRefusal>
+        ensures { result ≡ remapped self.now.remap self.now.scratch.now slot }
+    {
+        self.remap.remap(self.scratch, slot)
+    }
+
+    /// Remembers the map's numbers.
+    fn save(&mut self) -> ItemSet
+        requires sound { Sound T.IdOrdItem.order (view self.old.map) }
+        ensures sound { Sound T.IdOrdItem.order (view self.new.map) }
+    {
+        self.saved = self.map.items();
+        self.saved
+    }
+
+    /// Does with the board's memory what is asked.
+    pub fn keep_up(&mut self, upkeep: Upkeep) -> Result<Kempt, Refusal<T>>
+        requires sound { Sound T.IdOrdItem.order (view self.old.map) }
+        ensures sound { Sound T.IdOrdItem.order (view self.new.map) }
+    {
+        Ok(match upkeep {
+            Upkeep::Shrink(places) => Kempt::Shrunk(self.shrink(places)?),
+            Upkeep::Remap(slot) => Kempt::Moved(self.remap(slot)?),
+            Upkeep::Save => Kempt::Saved(self.save()),
+            Upkeep::Restore => {
+                let saved = self.saved;
+                Kempt::Adopted(adopt(&mut self.map, saved, saved.len)?)
+            }
+            Upkeep::Adopt(numbers, count) => Kempt::Adopted(adopt(&mut self.map, numbers, count)?),
+        })
     }
 }
