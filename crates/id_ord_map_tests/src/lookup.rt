@@ -36,8 +36,6 @@ pub fn occupied_entry(
 pub fn taken(map: &IdOrdMap<'_, Stay>, berth: u16, from: u32) -> Result<RefMut<Stay>, Fail>
     requires sound { Sound by_berth_then_from (view map.now) }
 {
-    match map.get_mut(&at(berth, from)) {
-        Some(item) => Ok(item),
-        None => Err(Fail::new("the key does not stand")),
-    }
+    map.get_mut(&at(berth, from))
+        .ok_or_else(|| Fail::new("the key does not stand"))
 }

@@ -5,4 +5,4 @@ use Rattle.panel_items.specs.Stay.{by_berth_then_from}
 use Rattle.id_ord_map_tests.proofs.long_run.a_long_run_keeps_to_the_array.Given as goal
 
 abbrev pub invariant-loop : goal.invariant-loop
-invariant-loop g l = Sound by_berth_then_from (view l.map)
+invariant-loop g l = Sound by_berth_then_from (view l.run.map)
