@@ -54,13 +54,11 @@ fn old_slot_numbers_are_new_ones_gone_or_out_of_range(rt: HostRuntime) -> Result
     ];
     for (old, room, expected) in cases {
         assert!(rt; room <= 4);
-        let answer = remap.remap(&places[0..room], ItemIndex::new(old));
-        let answer = answer.map(|new| new.as_u32());
-        assert_eq!(rt;
-            answer.map_err(|refusal| refusal.number()),
-            expected,
-            "{old}"
-        );
+        let answer = remap
+            .remap(&places[0..room], ItemIndex::new(old))
+            .map(|new| new.as_u32())
+            .map_err(|refusal| refusal.number());
+        assert_eq!(rt; answer, expected, "{old}");
     }
     Ok(())
 }

@@ -66,10 +66,11 @@ impl Run<'_> {
         ensures sound { Sound by_berth_then_from (view self.new.map) }
     {
         let fits = self.has_room() || self.standing.contains_key(&stay.from);
-        let mut expected = None;
-        if fits {
-            expected = Some(self.standing.insert(stay.from, stay)?);
-        }
+        let expected = if fits {
+            Some(self.standing.insert(stay.from, stay)?)
+        } else {
+            None
+        };
         assert_eq!(rt; self.map.insert_overwrite(stay).ok(), expected);
         Ok(())
     }
