@@ -1,8 +1,8 @@
 // The faults that `adopt` finds, refusals 10 to 19, each with its number, layer and place.
-use crate::memory::{S, entries, held, of_vessel, vacant};
+use crate::memory::{S, entries, held, numbers, of_vessel, told, vacant};
 use id_ord_errors::Layer;
 use id_ord_map::IdOrdMap;
-use item_set::{ItemIndex, ItemSet, ItemSlot};
+use item_set::{ItemSet, ItemSlot};
 use panel_items::Stay;
 use std::process::Abort;
 use std::test::Fail;
@@ -22,31 +22,25 @@ fn c() -> ItemSlot<Stay> {
     held(4, 540)
 }
 
-/// Told `used`, `len`, free head and table count, `adopt` answers this fault, or none, and writes nothing.
+/// Told `used`, `len`, free head and table count, `adopt` answers so and writes nothing.
 fn answers<const N: usize>(
     rt: &impl Abort,
     slots: [ItemSlot<Stay>; N],
     table: [u32; N],
     (used, len, free_head, count): (u32, u32, u32, u32),
-    expected: Option<(u8, Layer, usize)>,
+    expected: Result<(), (u8, Layer, usize)>,
 ) -> Result<(), Fail> {
     let mut lent = slots;
     let mut lent_table = entries(table)?;
     let mut map = IdOrdMap::new(&mut lent, &mut lent_table);
-    let free_head = ItemIndex::new(free_head);
-    let mut left = ItemSet::new();
-    let fault = match map.adopt(used, len, free_head, count) {
-        Ok(()) => {
-            left = ItemSet {
-                used,
-                len,
-                free_head,
-            };
-            None
-        }
-        Err(fault) => Some((fault.number(), fault.layer(), fault.place())),
+    let given = numbers(used, len, free_head);
+    let answer = told(map.adopt(used, len, given.free_head, count));
+    assert_eq!(rt; answer, expected);
+    let left = if answer.is_ok() {
+        given
+    } else {
+        ItemSet::new()
     };
-    assert_eq!(rt; fault, expected);
     assert_eq!(rt; map.items(), left, "{expected:?}");
     assert_eq!(rt; &lent[..], &slots[..], "{expected:?}");
     assert_eq!(rt; &lent_table[..], &entries(table)?[..], "{expected:?}");
@@ -57,10 +51,10 @@ fn finds<const N: usize>(
     rt: &impl Abort,
     slots: [ItemSlot<Stay>; N],
     table: [u32; N],
-    told: (u32, u32, u32, u32),
+    parts: (u32, u32, u32, u32),
     fault: (u8, Layer, usize),
 ) -> Result<(), Fail> {
-    answers(rt, slots, table, told, Some(fault))
+    answers(rt, slots, table, parts, Err(fault))
 }
 
 #[test]
@@ -161,11 +155,11 @@ fn walks_that_do_not_ascend(rt: HostRuntime) -> Result<(), Fail> {
 
 #[test]
 fn sound_parts_are_accepted(rt: HostRuntime) -> Result<(), Fail> {
-    answers(&rt, [a(), vacant(S)], [0, 0], (2, 1, 1, 1), None)?;
+    answers(&rt, [a(), vacant(S)], [0, 0], (2, 1, 1, 1), Ok(()))?;
     let slots = [c(), a(), b(), vacant(S)];
-    answers(&rt, slots, [1, 2, 0, 9], (3, 3, S, 3), None)?;
+    answers(&rt, slots, [1, 2, 0, 9], (3, 3, S, 3), Ok(()))?;
     // what lies past the numbers is not looked at
-    answers(&rt, [a(), a()], [0, 0], (1, 1, S, 1), None)?;
-    answers(&rt, [a(), vacant(0)], [7, 7], (0, 0, S, 0), None)?;
-    answers(&rt, [], [], (0, 0, S, 0), None)
+    answers(&rt, [a(), a()], [0, 0], (1, 1, S, 1), Ok(()))?;
+    answers(&rt, [a(), vacant(0)], [7, 7], (0, 0, S, 0), Ok(()))?;
+    answers(&rt, [], [], (0, 0, S, 0), Ok(()))
 }

@@ -4,7 +4,7 @@ use id_ord_errors::{DuplicateItem, InsertRefusal, MapFull};
 use id_ord_item::KeepFirst;
 use id_ord_map::{Entry, IdOrdMap};
 use index_table::Index;
-use item_set::{IndexRemap, ItemIndex, ItemSlot};
+use item_set::{IndexRemap, ItemIndex};
 use panel_items::{CodeText, Stay};
 use std::test::Fail;
 
@@ -123,9 +123,7 @@ fn the_largest_slot_number_makes_an_entry(rt: HostRuntime) -> Result<(), Fail> {
 
 #[test]
 fn letters_find_a_sailing(rt: HostRuntime) -> Result<(), Fail> {
-    let mut slots = [ItemSlot::Vacant {
-        next: ItemIndex::SENTINEL,
-    }; 2];
+    let mut slots = [vacant(S); 2];
     let mut table = entries([9, 9])?;
     let mut map = IdOrdMap::new(&mut slots, &mut table);
     map.insert_unique(sailing(0x4142_4344_4546_4748))?;

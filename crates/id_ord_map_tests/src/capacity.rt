@@ -1,9 +1,8 @@
 // The capacity of a map: the least of its slots, its table entries and 4,096.
-ghost use Rattle.id_ord_law.specs.Parts.{Sound};
 ghost use Rattle.id_ord_map.specs.View.{view};
 ghost use Rattle.panel_items.specs.Sailing.{by_code};
 
-use crate::memory::{entries, sailing, stay, vacant};
+use crate::memory::{S, entries, sailing, stay, vacant};
 use id_ord_errors::{InsertRefusal, MapFull};
 use id_ord_map::IdOrdMap;
 use index_table::Index;
@@ -14,8 +13,6 @@ use std::test::Fail;
 
 /// Inserts the sailings with the codes below a number.
 fn insert_below(map: &mut IdOrdMap<'_, Sailing>, codes: u64) -> Result<(), Fail>
-    requires sound { Sound by_code (view map.old) }
-    ensures sound { Sound by_code (view map.new) }
 {
     for code in 0..codes {
         map.insert_unique(sailing(code))?;
@@ -25,10 +22,7 @@ fn insert_below(map: &mut IdOrdMap<'_, Sailing>, codes: u64) -> Result<(), Fail>
 
 #[test]
 fn however_long_the_memory_the_limit_is_4096(rt: HostRuntime) -> Result<(), Fail> {
-    let vacant = ItemSlot::Vacant {
-        next: ItemIndex::SENTINEL,
-    };
-    let mut slots = vec![in rt.alloc(); vacant; 5000]?;
+    let mut slots = vec![in rt.alloc(); vacant(S); 5000]?;
     let mut table = vec![in rt.alloc(); Index::new(ItemIndex::new(9))?; 5000]?;
     let mut map = IdOrdMap::new(slots.as_mut_slice(), table.as_mut_slice());
     insert_below(&mut map, 4096)?;
@@ -65,7 +59,7 @@ fn holds<const SLOTS: usize, const ENTRIES: usize>(
 
 #[test]
 fn the_shorter_of_slots_and_table_is_the_capacity(rt: HostRuntime) -> Result<(), Fail> {
-    let slot = vacant(4294967295);
+    let slot = vacant(S);
     holds(&rt, [slot; 3], [9; 3], 3)?;
     holds(&rt, [slot; 2], [9; 3], 2)?;
     holds(&rt, [slot; 3], [9; 1], 1)?;

@@ -1,22 +1,16 @@
 // The refusals that concern slot numbers and vacant slots, 5 to 8 and 20, and LONG, 9.
-use crate::memory::{Memory, S, at, held, insert_three, scratch, vacant};
-use id_ord_errors::{Layer, ValidationError};
+use crate::memory::{Memory, S, at, held, insert_three, scratch, told, vacant};
+use id_ord_errors::Layer;
 use id_ord_map::IdOrdMap;
 use index_table::Index;
 use item_set::{CompactRefusal, IndexRemap, ItemIndex, ValidateCompact};
 use panel_items::CodeText;
-use std::process::Abort;
 use std::test::Fail;
 
 #[test]
-fn no_entry_is_made_of_the_sentinel(rt: HostRuntime) -> Result<(), Fail> {
-    match Index::new(ItemIndex::SENTINEL) {
-        Ok(_) => Err(Fail::new("an entry was made")),
-        Err(refusal) => {
-            assert_eq!(rt; refusal.number(), 5);
-            Ok(())
-        },
-    }
+fn no_entry_is_made_of_the_sentinel(rt: HostRuntime) {
+    let answer = Index::new(ItemIndex::SENTINEL).map_err(|refusal| refusal.number());
+    assert_eq!(rt; answer, Err(5));
 }
 
 #[test]
@@ -60,10 +54,10 @@ fn old_slot_numbers_are_new_ones_gone_or_out_of_range(rt: HostRuntime) -> Result
     ];
     for (old, room, expected) in cases {
         assert!(rt; room <= 4);
-        let answer = match remap.remap(&places[0..room], ItemIndex::new(old)) {
-            Ok(new) => Ok(new.as_u32()),
-            Err(refusal) => Err(refusal.number()),
-        };
+        let answer = remap
+            .remap(&places[0..room], ItemIndex::new(old))
+            .map(|new| new.as_u32())
+            .map_err(|refusal| refusal.number());
         assert_eq!(rt; answer, expected, "{old}");
     }
     Ok(())
@@ -82,48 +76,32 @@ fn shrinking_leaves_the_items_together(rt: HostRuntime) -> Result<(), Fail> {
     Ok(())
 }
 
-/// The answer is NOT_COMPACT with this many vacant slots, or none.
-fn is_not_compact(
-    rt: &impl Abort,
-    answer: Result<(), ValidationError>,
-    vacant: usize,
-) -> Result<(), Fail> {
-    match answer {
-        Ok(()) => {
-            assert_eq!(rt; vacant, 0);
-            Ok(())
-        },
-        Err(fault) => {
-            let found = (fault.number(), fault.layer(), fault.place());
-            assert_eq!(rt; found, (20, Layer::Items, vacant));
-            Ok(())
-        }
-    }
-}
-
 #[test]
 fn vacant_slots_are_told_where_that_is_asked_for(rt: HostRuntime) -> Result<(), Fail> {
     let mut memory = Memory::unused()?;
     let mut map = IdOrdMap::new(&mut memory.slots, &mut memory.table);
     insert_three(&mut map)?;
-    is_not_compact(&rt, map.validate(ValidateCompact::Compact), 0)?;
+    assert_eq!(rt; map.validate(ValidateCompact::Compact), Ok(()));
     map.remove(&at(2, 600));
-    is_not_compact(&rt, map.validate(ValidateCompact::Compact), 1)?;
+    assert_eq!(rt;
+        told(map.validate(ValidateCompact::Compact)),
+        Err((20, Layer::Items, 1))
+    );
     map.remove(&at(4, 530));
-    is_not_compact(&rt, map.validate(ValidateCompact::Compact), 2)?;
-    is_not_compact(&rt, map.validate(ValidateCompact::NonCompact), 0)
+    assert_eq!(rt;
+        told(map.validate(ValidateCompact::Compact)),
+        Err((20, Layer::Items, 2))
+    );
+    assert_eq!(rt; map.validate(ValidateCompact::NonCompact), Ok(()));
+    Ok(())
 }
 
 #[test]
 fn nine_letters_are_no_code(rt: HostRuntime) -> Result<(), Fail> {
     let mut text = CodeText::new();
     text.fill(b"AUK")?;
-    match text.fill(b"ABCDEFGHI") {
-        Ok(()) => Err(Fail::new("nine letters were taken")),
-        Err(refusal) => {
-            assert_eq!(rt; refusal.number(), 9);
-            assert_eq!(rt; text.code(), 0x4155_4B00_0000_0000);
-            Ok(())
-        }
-    }
+    let answer = text.fill(b"ABCDEFGHI").map_err(|refusal| refusal.number());
+    assert_eq!(rt; answer, Err(9));
+    assert_eq!(rt; text.code(), 0x4155_4B00_0000_0000);
+    Ok(())
 }

@@ -1,5 +1,4 @@
 // Entries in a test: one for a key that stands, and one for a key that does not.
-ghost use Rattle.id_ord_law.specs.Parts.{Sound};
 ghost use Rattle.id_ord_map.specs.View.{view};
 ghost use Rattle.panel_items.specs.Stay.{by_berth_then_from};
 
@@ -10,7 +9,6 @@ use std::test::Fail;
 
 /// The entry for the key (0,0), which does not stand.
 pub fn vacant_entry(map: &IdOrdMap<'_, Stay>) -> Result<VacantEntry, Fail>
-    requires sound { Sound by_berth_then_from (view map.now) }
 {
     match map.entry(&at(0, 0)) {
         Entry::Vacant(entry) => Ok(entry),
@@ -24,7 +22,6 @@ pub fn occupied_entry(
     berth: u16,
     from: u32,
 ) -> Result<OccupiedEntry<Stay>, Fail>
-    requires sound { Sound by_berth_then_from (view map.now) }
 {
     match map.entry(&at(berth, from)) {
         Entry::Occupied(entry) => Ok(entry),
@@ -34,10 +31,7 @@ pub fn occupied_entry(
 
 /// The stay with a key, which stands, taken for a change.
 pub fn taken(map: &IdOrdMap<'_, Stay>, berth: u16, from: u32) -> Result<RefMut<Stay>, Fail>
-    requires sound { Sound by_berth_then_from (view map.now) }
 {
-    match map.get_mut(&at(berth, from)) {
-        Some(item) => Ok(item),
-        None => Err(Fail::new("the key does not stand")),
-    }
+    map.get_mut(&at(berth, from))
+        .ok_or_else(|| Fail::new("the key does not stand"))
 }

@@ -1,8 +1,8 @@
 // Short ways to write stays, and the memory and numbers of a map, in a test.
-ghost use Rattle.id_ord_law.specs.Parts.{Sound};
 ghost use Rattle.id_ord_map.specs.View.{view, SameMemory};
 ghost use Rattle.panel_items.specs.Stay.{by_berth_then_from};
 
+use id_ord_errors::{Layer, ValidationError};
 use id_ord_map::IdOrdMap;
 use index_table::Index;
 use item_set::{ItemIndex, ItemSet, ItemSlot};
@@ -90,7 +90,7 @@ pub fn held(berth: u16, from: u32) -> ItemSlot<Stay> {
 }
 
 /// A vacant slot that names the next free one.
-pub fn vacant(next: u32) -> ItemSlot<Stay> {
+pub fn vacant<T>(next: u32) -> ItemSlot<T> {
     ItemSlot::Vacant {
         next: ItemIndex::new(next),
     }
@@ -99,8 +99,8 @@ pub fn vacant(next: u32) -> ItemSlot<Stay> {
 /// The entries that name some slots.
 pub fn entries<const N: usize>(slots: [u32; N]) -> Result<[Index; N], Fail> {
     let mut made = [Index::new(ItemIndex::new(0))?; N];
-    for place in 0..N {
-        made[place] = Index::new(ItemIndex::new(slots[place]))?;
+    for (entry, slot) in made.iter_mut().zip(&slots) {
+        *entry = Index::new(ItemIndex::new(*slot))?;
     }
     Ok(made)
 }
@@ -108,17 +108,20 @@ pub fn entries<const N: usize>(slots: [u32; N]) -> Result<[Index; N], Fail> {
 /// A scratch of such numbers.
 pub fn scratch<const N: usize>(numbers: [u32; N]) -> [ItemIndex; N] {
     let mut places = [ItemIndex::SENTINEL; N];
-    for at in 0..N {
-        places[at] = ItemIndex::new(numbers[at]);
+    for (place, number) in places.iter_mut().zip(&numbers) {
+        *place = ItemIndex::new(*number);
     }
     places
 }
 
+/// What a fault tells: its number, its layer and its place.
+pub fn told(answer: Result<(), ValidationError>) -> Result<(), (u8, Layer, usize)> {
+    answer.map_err(|fault| (fault.number(), fault.layer(), fault.place()))
+}
+
 /// Inserts the stays (4,540), (2,600), (4,530), in this order.
 pub fn insert_three(map: &mut IdOrdMap<'_, Stay>) -> Result<(), Fail>
-    requires sound { Sound by_berth_then_from (view map.old) }
     ensures memory { SameMemory map.old map.new }
-    ensures sound { Sound by_berth_then_from (view map.new) }
 {
     map.insert_unique(stay(4, 540))?;
     map.insert_unique(stay(2, 600))?;

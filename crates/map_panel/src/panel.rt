@@ -1,5 +1,4 @@
 // The panel: its two boards, and the commands that it carries out on them, line by line.
-ghost use Rattle.id_ord_law.specs.Parts.{Sound};
 ghost use Rattle.id_ord_map.specs.View.{view};
 ghost use Rattle.panel_items.specs.Sailing.{by_code};
 ghost use Rattle.panel_items.specs.Stay.{by_berth_then_from};
@@ -21,10 +20,6 @@ pub struct Panel<'m> {
 impl<'m> Panel<'m> {
     /// Carries out a command, and prints what was done.
     fn obey(&mut self, rt: &HostRuntime, command: Command<'_>) -> io::Result<()>
-        requires stays { Sound by_berth_then_from (view self.old.stays.map) }
-        requires sailings { Sound by_code (view self.old.sailings.map) }
-        ensures stays { Sound by_berth_then_from (view self.new.stays.map) }
-        ensures sailings { Sound by_code (view self.new.sailings.map) }
     {
         match command {
             Command::Stays(order) => self.stays.serve(rt, order),
@@ -35,10 +30,6 @@ impl<'m> Panel<'m> {
 
     /// Carries out the command of a line, if it has one, or tells what is wrong with the line.
     fn obey_line(&mut self, rt: &HostRuntime, at: u64, line: &[u8]) -> io::Result<()>
-        requires stays { Sound by_berth_then_from (view self.old.stays.map) }
-        requires sailings { Sound by_code (view self.old.sailings.map) }
-        ensures stays { Sound by_berth_then_from (view self.new.stays.map) }
-        ensures sailings { Sound by_code (view self.new.sailings.map) }
     {
         match read_line(line) {
             Ok(None) => Ok(()),
@@ -52,10 +43,6 @@ impl<'m> Panel<'m> {
 
     /// Carries out the commands of the input, line by line.
     fn obey_lines(&mut self, rt: &HostRuntime) -> anyhow::Result<()>
-        requires stays { Sound by_berth_then_from (view self.old.stays.map) }
-        requires sailings { Sound by_code (view self.old.sailings.map) }
-        ensures stays { Sound by_berth_then_from (view self.new.stays.map) }
-        ensures sailings { Sound by_code (view self.new.sailings.map) }
     {
         let lines = BufReader::new(rt.alloc(), rt.stdin())?.split(rt.alloc(), b'\n');
         for (at, line) in (1..=u64::MAX).zip(lines) {
@@ -66,8 +53,6 @@ impl<'m> Panel<'m> {
 
     /// Obeys the input, and prints the boards as they are at its end.
     pub fn show_day(&mut self, rt: &HostRuntime) -> anyhow::Result<()>
-        requires stays { Sound by_berth_then_from (view self.old.stays.map) }
-        requires sailings { Sound by_code (view self.old.sailings.map) }
     {
         self.obey_lines(rt)?;
         println!(rt; "stays:")?;

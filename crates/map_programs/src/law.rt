@@ -8,10 +8,10 @@ ghost use Rattle.id_ord_map.specs.Answers.{inserted};
 ghost use Rattle.id_ord_map.specs.View.{view};
 ghost use Rattle.map_programs.specs.Runs.{every_call};
 
-use crate::runs::make_every_call;
+use crate::runs::{Supplies, make_every_call};
 use id_ord_errors::InsertRefusal;
 use id_ord_item::{Comparable, IdOrdItem, KeepRule};
-use id_ord_map::{IdOrdMap, OccupiedEntry, RefMut, VacantEntry};
+use id_ord_map::IdOrdMap;
 use index_table::Index;
 use item_set::{ItemIndex, ItemSlot};
 
@@ -49,17 +49,12 @@ pub fn after_every_call<'a, T: IdOrdItem, Q: Comparable<T>, R: KeepRule<T>>(
     table: &'a mut [Index],
     query: &Q,
     scratch: &mut [ItemIndex],
-    items: (T, T, T, T),
-    vacant: (VacantEntry, VacantEntry),
-    occupied: (OccupiedEntry<T>, OccupiedEntry<T>),
-    taken: RefMut<T>,
+    supplies: Supplies<T>,
     rule: &mut R,
 ) -> IdOrdMap<'a, T>
-    ensures walks { Walks T.IdOrdItem.order (view result) (stood T.IdOrdItem.order (capacity (parts slots.old table.old cleared)) (every_call (Q.Comparable.meant query.now) None (length scratch.old) items.0 items.1 items.2 items.3 occupied.0 occupied.1 taken (told R.KeepRule.verdict R.KeepRule.changed R.KeepRule.next rule.old)) []) }
+    ensures walks { Walks T.IdOrdItem.order (view result) (stood T.IdOrdItem.order (capacity (parts slots.old table.old cleared)) (every_call (Q.Comparable.meant query.now) None (length scratch.old) supplies (told R.KeepRule.verdict R.KeepRule.changed R.KeepRule.next rule.old)) []) }
 {
     let mut map = IdOrdMap::new(slots, table);
-    make_every_call(
-        &mut map, query, scratch, items, vacant, occupied, taken, rule,
-    );
+    make_every_call(&mut map, query, scratch, supplies, rule);
     map
 }

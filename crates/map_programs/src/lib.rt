@@ -12,4 +12,4 @@ mod runs;
 pub use entry_programs::{remove_through_two_entries, replace_through_the_occupied_case};
 pub use law::after_every_call;
 pub use letting_go::fill_and_let_go;
-pub use runs::make_every_call;
+pub use runs::{Supplies, make_every_call};

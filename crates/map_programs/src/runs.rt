@@ -10,6 +10,15 @@ use id_ord_item::{Comparable, IdOrdItem, KeepRule};
 use id_ord_map::{IdOrdMap, OccupiedEntry, RefMut, VacantEntry};
 use item_set::ItemIndex;
 
+/// What a run of every kind of call works with: four items to offer, entries, and an item taken for a change.
+#[derive(Drop)]
+pub struct Supplies<T: IdOrdItem> {
+    pub items: (T, T, T, T),
+    pub vacant: (VacantEntry, VacantEntry),
+    pub occupied: (OccupiedEntry<T>, OccupiedEntry<T>),
+    pub taken: RefMut<T>,
+}
+
 /// Looks for a key, and adds an item if it does not stand.
 pub fn look_up_or_add<T: IdOrdItem, Q: Comparable<T>>(map: &mut IdOrdMap<'_, T>, query: &Q, item: T)
     ensures does { view map.new ≡ ran T.IdOrdItem.order (looks_up (Q.Comparable.meant query.now) (found T.IdOrdItem.order (Q.Comparable.meant query.now) (walk (view map.old))) item) (view map.old) }
@@ -88,15 +97,17 @@ pub fn make_every_call<T: IdOrdItem, Q: Comparable<T>, R: KeepRule<T>>(
     map: &mut IdOrdMap<'_, T>,
     query: &Q,
     scratch: &mut [ItemIndex],
-    items: (T, T, T, T),
-    vacant: (VacantEntry, VacantEntry),
-    occupied: (OccupiedEntry<T>, OccupiedEntry<T>),
-    taken: RefMut<T>,
+    supplies: Supplies<T>,
     rule: &mut R,
 )
-    ensures does { view map.new ≡ ran T.IdOrdItem.order (every_call (Q.Comparable.meant query.now) (found T.IdOrdItem.order (Q.Comparable.meant query.now) (walk (view map.old))) (length scratch.old) items.0 items.1 items.2 items.3 occupied.0 occupied.1 taken (told R.KeepRule.verdict R.KeepRule.changed R.KeepRule.next rule.old)) (view map.old) }
+    ensures does { view map.new ≡ ran T.IdOrdItem.order (every_call (Q.Comparable.meant query.now) (found T.IdOrdItem.order (Q.Comparable.meant query.now) (walk (view map.old))) (length scratch.old) supplies (told R.KeepRule.verdict R.KeepRule.changed R.KeepRule.next rule.old)) (view map.old) }
 {
-    let (one, two, three, four) = items;
+    let Supplies {
+        items: (one, two, three, four),
+        vacant,
+        occupied,
+        taken,
+    } = supplies;
     look_up_or_add(map, query, one);
     shrink_and_clear(map, scratch);
     add(map, one, two);
