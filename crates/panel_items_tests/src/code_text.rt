@@ -32,7 +32,9 @@ fn letters_are_bytes_with_zeros_after_them(rt: HostRuntime) -> Result<(), Fail> 
 fn nine_letters_are_refused_as_long(rt: HostRuntime) -> Result<(), Fail> {
     let mut text = CodeText::new();
     text.fill(b"AUK")?;
-    let refusal = text.fill(b"ABCDEFGHI").expect_err(&rt, "nine letters were taken");
+    let refusal = text
+        .fill(b"ABCDEFGHI")
+        .expect_err(&rt, "nine letters were taken");
     assert_eq!(rt; refusal, CodeTextRefusal::Long);
     assert_eq!(rt; refusal.number(), 9);
     assert_eq!(rt; text.code(), 0x4155_4B00_0000_0000);

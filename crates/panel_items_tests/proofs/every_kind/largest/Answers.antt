@@ -1,8 +1,6 @@
--- One item more is passed, and at the end all are.
+-- One item more is passed.
 use Rattle.std.proofs.Common.{◌≡◌, ◌+◌, sym, ◌∙◌, subst}
 use Rattle.std.specs.Ordering.{is_gt}
-use Rattle.std.specs.List.{AllByRecursion}
-use Rattle.std.proofs.lemmas.List.{take_all}
 use Rattle.panel_items_tests.proofs.Top.{Top, top_stays, top_moves}
 use Rattle.panel_items_tests.proofs.every_kind.largest.Goals as goal
 use Rattle.panel_items_tests.proofs.every_kind.largest.Goals.{then-is_gt, else-is_gt}
@@ -22,8 +20,3 @@ loop-item-preserved g c =
       | then-is_gt w ↦ subst NextTop (sym w.best-is) (top_moves lawful items i best item within c.item-item.is c.loop-item.invariant (sym compared ∙ w.if-is_gt.true))
       | else-is_gt w ↦ subst NextTop (sym w.best-is) (top_stays lawful items i best item within c.item-item.is c.loop-item.invariant (sym compared ∙ w.if-is_gt.false))
     ]
-
-pub returns : goal.returns
-returns g c =
-    let all = take_all c.loop-item.item-index c.args.items.now c.loop-item-test.false in
-    (c.loop-item.invariant.0, subst (AllByRecursion _) all c.loop-item.invariant.1)
