@@ -18,6 +18,7 @@ pub enum CompactRefusal {
 
 impl CompactRefusal {
     /// The number of the refusal.
+    // one row of numbers goes through all kinds of refusal, and callers go by it
     pub fn number(self) -> u8
         ensures { result ≡ compact_number self }
     {
@@ -36,6 +37,7 @@ fn pack<T: Copy>(slots: &mut [ItemSlot<T>], scratch: &mut [ItemIndex]) -> u32
     ensures slots { slots.new ≡ packed slots.old ++ replicate (length slots.old - occupied slots.old) (ItemSlot.Vacant sentinel) }
     ensures scratch { scratch.new ≡ new_numbers 0 slots.old ++ drop (length slots.old) scratch.old }
 {
+    // an item moves within the slice that is read, so no iterator over it can stand here
     let mut count: u32 = 0;
     for at in 0..slots.len() {
         let slot = slots[at];

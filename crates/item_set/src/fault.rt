@@ -23,6 +23,7 @@ pub enum ItemSetFault {
 
 impl ItemSetFault {
     /// The number of the refusal.
+    // one row of numbers goes through all kinds of refusal, and callers go by it
     pub fn number(self) -> u8
         ensures { result ≡ number_of self }
     {
@@ -42,9 +43,9 @@ impl ItemSetFault {
     {
         match self {
             ItemSetFault::Count { occupied } => occupied,
-            ItemSetFault::ChainRange { slot } => slot.as_u32(),
-            ItemSetFault::ChainOccupied { slot } => slot.as_u32(),
-            ItemSetFault::ChainLong { slot } => slot.as_u32(),
+            ItemSetFault::ChainRange { slot }
+            | ItemSetFault::ChainOccupied { slot }
+            | ItemSetFault::ChainLong { slot } => slot.as_u32(),
             ItemSetFault::ChainShort { steps } => steps,
             ItemSetFault::NotCompact { vacant } => vacant,
         }

@@ -8,6 +8,7 @@ pub struct ItemIndex(u32);
 
 impl ItemIndex {
     /// The number that names no slot: it ends the chain of free slots.
+    // a slot number fills its 32 bits in the lent memory, which an Option would not
     pub const SENTINEL: ItemIndex = ItemIndex(u32::MAX);
 
     pub fn new(value: u32) -> ItemIndex

@@ -27,6 +27,7 @@ pub struct NoSlot<T> {
 }
 
 /// The slot holds no item that could be replaced; the item offered comes back.
+// apart from NoSlot, so that the type of an answer says what was refused
 #[derive(Clone, Copy, PartialEq, Eq, Debug)]
 pub struct NotHeld<T> {
     pub item: T,

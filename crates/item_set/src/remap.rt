@@ -25,6 +25,7 @@ pub enum RemapRefusal {
 
 impl RemapRefusal {
     /// The number of the refusal.
+    // one row of numbers goes through all kinds of refusal, and callers go by it
     pub fn number(self) -> u8
         ensures { result ≡ remap_number self }
     {

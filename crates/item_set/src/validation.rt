@@ -28,6 +28,7 @@ fn count_occupied<T>(slots: &[ItemSlot<T>]) -> u32
 }
 
 /// The free slot that one of the chain names, or the fault where it is no vacant slot.
+// apart from next_at: an insert would name a fault only to drop it
 fn next_free<T: Copy>(slots: &[ItemSlot<T>], slot: ItemIndex) -> Result<ItemIndex, ItemSetFault>
     ensures { (onward : ItemIndex → Option ItemSetFault) → MatchResult result (λ next. reached slots.now slot onward ≡ onward next) (λ fault. reached slots.now slot onward ≡ Some fault) }
 {
