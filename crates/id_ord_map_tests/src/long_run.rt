@@ -22,6 +22,8 @@ fn following(x: u32) -> u32 {
 }
 
 /// A map, and the stays that should stand in it, each under the minute it begins.
+///
+/// Each call is made on both, and they must agree on the answer.
 #[derive(Drop)]
 struct Run<'a> {
     map: IdOrdMap<'a, Stay>,

@@ -1,4 +1,4 @@
-// Short ways to write stays, and the memory and numbers of a map, in a test.
+// Short ways to write stays and faults, and the memory and numbers of a map, in a test.
 ghost use Rattle.id_ord_map.specs.View.{view, SameMemory};
 ghost use Rattle.panel_items.specs.Stay.{by_berth_then_from};
 
