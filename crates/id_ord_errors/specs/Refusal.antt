@@ -1,6 +1,7 @@
 -- Each refusal as an answer of the map, with the values that it returns, and its number.
 --     duplicated, no_room, not_inserted, not_entered, key_other, not_replaced, gone    the refusals as answers
---     number_of answer    the number of a refusal, 0 for any other answer
+--     as_entered refusal    the refusal to add an item as that of an entry
+--     number_of answer      the number of a refusal, 0 for any other answer
 use Rattle.std.specs.Prelude.{ℕ, Ok, Err, Result}
 use Rattle.item_set.specs.Refusal.{compact_number}
 use Rattle.item_set.specs.declared.compaction.CompactRefusal.{CompactRefusal}
@@ -44,6 +45,10 @@ module _ {T : Type 0} where
   not_entered (OrDuplicate refusal) = duplicated refusal
   not_entered (OrFull refusal) = no_room refusal
   not_entered (OrStale item) = stale_offered item
+
+  abbrev pub as_entered : InsertRefusal T → OrInsertRefusal T
+  as_entered (Duplicate refusal) = OrDuplicate refusal
+  as_entered (Full refusal) = OrFull refusal
 
   abbrev pub gone : StaleEntry → Answered T
   gone refusal = stale

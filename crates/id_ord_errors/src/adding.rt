@@ -1,6 +1,6 @@
 // Why an item was not added.
 ghost use Rattle.std.specs.Prelude.{◌≡◌};
-ghost use Rattle.id_ord_errors.specs.Refusal.{number_of, duplicated, no_room, not_inserted, not_entered};
+ghost use Rattle.id_ord_errors.specs.Refusal.{number_of, duplicated, no_room, not_inserted, not_entered, as_entered};
 
 use item_set::ItemIndex;
 
@@ -25,7 +25,7 @@ pub enum InsertRefusal<T> {
     Full(MapFull<T>),
 }
 
-/// Why an entry gave no item that can be changed.
+/// Why an entry gave no item that can be changed: the cases of `InsertRefusal`, beside its own, so that one match tells all.
 #[derive(Clone, Copy, PartialEq, Eq, Debug)]
 pub enum OrInsertRefusal<T> {
     Duplicate(DuplicateItem<T>),
@@ -73,6 +73,17 @@ impl<T> OrInsertRefusal<T> {
             OrInsertRefusal::Duplicate(refusal) => refusal.number(),
             OrInsertRefusal::Full(refusal) => refusal.number(),
             OrInsertRefusal::Stale { .. } => 4,
+        }
+    }
+}
+
+impl<T> From<InsertRefusal<T>> for OrInsertRefusal<T> {
+    ghost from_gives = { λ refusal entered. entered ≡ as_entered refusal };
+
+    fn from(refusal: InsertRefusal<T>) -> OrInsertRefusal<T> {
+        match refusal {
+            InsertRefusal::Duplicate(refusal) => OrInsertRefusal::Duplicate(refusal),
+            InsertRefusal::Full(refusal) => OrInsertRefusal::Full(refusal),
         }
     }
 }
