@@ -3,6 +3,7 @@ ghost use Rattle.panel_items.specs.Stay.{by_berth_then_from, same_stay};
 ghost use Rattle.std.proofs.Common.{rules};
 ghost use Rattle.id_ord_item.proofs.Lexicographic.{lexicographic_lawful};
 
+use crate::stay_at::StayAt;
 use id_ord_item::IdOrdItem;
 use std::cmp::Ordering;
 
@@ -27,9 +28,7 @@ impl IdOrdItem for Stay {
     ghost faithful = { Prim.search rules };
 
     fn compare(&self, other: &Stay) -> Ordering {
-        self.berth
-            .cmp(&other.berth)
-            .then(self.from.cmp(&other.from))
+        StayAt::from(self).cmp(&StayAt::from(other))
     }
 
     fn same(&self, other: &Stay) -> bool {

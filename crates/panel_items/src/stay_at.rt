@@ -3,11 +3,11 @@ ghost use Rattle.std.specs.Prelude.{◌≡◌};
 ghost use Rattle.panel_items.specs.StayAt.{key_of, stay_meant};
 
 use crate::stay::Stay;
-use id_ord_item::{Comparable, IdOrdItem};
+use id_ord_item::Comparable;
 use std::cmp::Ordering;
 
 /// Looks for the stay that begins at a berth at a minute, whatever its end and its vessel.
-#[derive(Clone, Copy, PartialEq, Eq, Debug)]
+#[derive(Clone, Copy, PartialEq, Eq, PartialOrd, Ord, Debug)]
 pub struct StayAt {
     pub berth: u16,
     pub from: u32,
@@ -29,12 +29,6 @@ impl Comparable<Stay> for StayAt {
     ghost meant = { stay_meant };
 
     fn compare(&self, item: &Stay) -> Ordering {
-        let stay = Stay {
-            berth: self.berth,
-            from: self.from,
-            to: 0,
-            vessel: 0,
-        };
-        IdOrdItem::compare(&stay, item)
+        self.cmp(&StayAt::from(item))
     }
 }
