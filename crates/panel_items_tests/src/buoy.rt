@@ -3,6 +3,7 @@ ghost use Rattle.panel_items_tests.specs.Buoy.{by_zone_number_light, same_buoy};
 ghost use Rattle.std.proofs.Common.{rules};
 ghost use Rattle.id_ord_item.proofs.Lexicographic.{lexicographic_lawful};
 
+use crate::buoy_at::BuoyAt;
 use id_ord_item::IdOrdItem;
 use std::cmp::Ordering;
 
@@ -25,10 +26,7 @@ impl IdOrdItem for Buoy {
     ghost faithful = { Prim.search rules };
 
     fn compare(&self, other: &Buoy) -> Ordering {
-        self.zone
-            .cmp(&other.zone)
-            .then(self.number.cmp(&other.number))
-            .then(self.light.cmp(&other.light))
+        BuoyAt::from(self).cmp(&BuoyAt::from(other))
     }
 
     fn same(&self, other: &Buoy) -> bool {
