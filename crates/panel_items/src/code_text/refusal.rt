@@ -9,6 +9,7 @@ pub enum CodeTextRefusal {
 }
 
 impl CodeTextRefusal {
+    // The refusals of all libraries are numbered in one row.
     /// The number that stands for the refusal: 9 for LONG.
     pub fn number(self) -> u8
         ensures { result ≡ refusal_number self }

@@ -17,6 +17,12 @@ loop-item-preserved g c =
     let within = c.loop-item-test.true in
     let NextTop = Top order items (i + 1) in
     elim c.if-is_gt.branch [
-      | then-is_gt w ↦ subst NextTop (sym w.best-is) (top_moves lawful items i best item within c.item-item.is c.loop-item.invariant (sym compared ∙ w.if-is_gt.true))
-      | else-is_gt w ↦ subst NextTop (sym w.best-is) (top_stays lawful items i best item within c.item-item.is c.loop-item.invariant (sym compared ∙ w.if-is_gt.false))
+      | then-is_gt w ↦
+          let moves : NextTop item = top_moves lawful items i best item within c.item-item.is c.loop-item.invariant (sym compared ∙ w.if-is_gt.true) in
+          let is : c.if-is_gt.best ≡ item = cc in
+          subst NextTop (sym is) moves
+      | else-is_gt w ↦
+          let stays : NextTop best = top_stays lawful items i best item within c.item-item.is c.loop-item.invariant (sym compared ∙ w.if-is_gt.false) in
+          let is : c.if-is_gt.best ≡ best = cc in
+          subst NextTop (sym is) stays
     ]
