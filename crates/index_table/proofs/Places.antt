@@ -20,9 +20,6 @@ module _ (test : ℕ → Bool) where
   from_none zero k all = refl
   from_none (suc n) k all = cond-false _ _ _ (all k (omega arith) (omega arith)) ∙ from_none n (suc k) (λ i l h. all i (omega arith) (omega arith))
 
-  pub first_found : (n p : ℕ) → p < n → ((i : ℕ) → i < p → test i ≡ false) → test p ≡ true → first_place test n 0 ≡ Some p
-  first_found n p inside before here = from_found n 0 p (omega arith) (omega arith) (λ i l h. before i h) here
-
   pub first_none : (n : ℕ) → ((i : ℕ) → i < n → test i ≡ false) → first_place test n 0 ≡ None
   first_none n all = from_none n 0 (λ i l h. all i (omega arith))
 
@@ -47,5 +44,6 @@ first_is test a b n (Some i) e some = let low = some.0 in let high = some.1 in s
 pub first_of : {X : Type 0} (test : X → Bool) (d : X) (xs : List X) (r : Option ℕ)
     → MatchOption r (AllWithin (λ x. test x ≡ false) xs 0 (length xs)) (λ i. (i < length xs) × HoldsAt (λ x. test x ≡ true) xs i × AllWithin (λ x. test x ≡ false) xs 0 i)
     → r ≡ first_place (λ k. test (get_or xs k d)) (length xs) 0
-first_of test d xs None none = sym (first_none (λ k. test (get_or xs k d)) (length xs) (λ i inside. none i d (omega arith) inside))
-first_of test d xs (Some i) some = sym (first_found (λ k. test (get_or xs k d)) (length xs) i some.0 (λ k before. some.2 k d (omega arith) before) (some.1 d))
+first_of test d xs None none = first_is (λ k. test (get_or xs k d)) 0 (length xs) (length xs) None (omega arith) (λ k low high. none k d low high)
+first_of test d xs (Some i) some =
+    first_is (λ k. test (get_or xs k d)) 0 (length xs) (length xs) (Some i) (omega arith) (omega arith, some.0, some.1 d, λ k low high. some.2 k d low high)

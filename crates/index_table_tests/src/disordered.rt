@@ -15,12 +15,7 @@ fn slots() -> [ItemSlot<Stay>; 5] {
 }
 
 fn is_named(entries: &[Index], slot: ItemIndex) -> bool {
-    for entry in entries {
-        if entry.value() == slot {
-            return true;
-        }
-    }
-    false
+    entries.iter().any(|entry| entry.value() == slot)
 }
 
 /// A slot that is found is named by an entry and holds the key, and a place is one of the entries or past the last.

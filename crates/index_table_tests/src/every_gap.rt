@@ -27,9 +27,9 @@ impl Row {
     fn turned(by: u32) -> Result<Row, Fail> {
         let mut slots = [vacant(); MOST];
         let mut table = [entry(0)?; MOST];
-        for place in 0..MOST {
-            let slot = SHUFFLED[place].wrapping_add(by) % 9;
-            slots[slot as usize] = held(4, KEYS[place]);
+        for (place, (shuffled, from)) in SHUFFLED.iter().zip(KEYS).enumerate() {
+            let slot = shuffled.wrapping_add(by) % 9;
+            slots[slot as usize] = held(4, from);
             table[place] = entry(slot)?;
         }
         Ok(Row { slots, table })
@@ -50,10 +50,10 @@ impl Row {
     /// Looks for each key of the first `len` entries, and below, between and above them.
     fn has_each_key(&self, rt: &impl Abort, len: usize) -> Result<(), Fail> {
         assert!(rt; len <= MOST);
-        for place in 0..len {
-            let slot = self.table[place].value().as_u32();
-            self.finds(rt, len, KEYS[place].saturating_sub(5), (None, place))?;
-            self.finds(rt, len, KEYS[place], (Some(slot), place))?;
+        for (place, (entry, from)) in self.table[0..len].iter().zip(KEYS).enumerate() {
+            let slot = entry.value().as_u32();
+            self.finds(rt, len, from.saturating_sub(5), (None, place))?;
+            self.finds(rt, len, from, (Some(slot), place))?;
         }
         self.finds(rt, len, KEYS[len].saturating_sub(5), (None, len))?;
         // a slot may hold the next key, but no entry names it

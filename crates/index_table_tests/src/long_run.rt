@@ -42,11 +42,11 @@ fn check_table(
     row: &[u32],
     before: &[Index; PLACES],
 ) -> Result<(), Fail> {
-    for place in 0..PLACES {
-        let mut expected = before[place];
-        if place < row.len() {
-            expected = entry(row[place])?;
-        }
+    for (place, old) in before.iter().enumerate() {
+        let expected = match row.get(place) {
+            Some(slot) => entry(*slot)?,
+            None => *old,
+        };
         assert_eq!(rt; table[place], expected, "place {place}");
     }
     Ok(())

@@ -12,10 +12,7 @@ fn found<Q: Comparable<Stay>>(
     entries: &[Index],
     query: &Q,
 ) -> (Option<u32>, usize) {
-    let slot = match find_index(slots, entries, query) {
-        Some(index) => Some(index.as_u32()),
-        None => None,
-    };
+    let slot = find_index(slots, entries, query).map(|index| index.as_u32());
     (slot, find_place(slots, entries, query))
 }
 

@@ -40,17 +40,18 @@ pub fn entry(slot: u32) -> Result<Index, Fail> {
 /// The entries that name some slots.
 pub fn entries<const N: usize>(slots: [u32; N]) -> Result<[Index; N], Fail> {
     let mut made = [entry(0)?; N];
-    for place in 0..N {
-        made[place] = entry(slots[place])?;
+    for (place, slot) in made.iter_mut().zip(&slots) {
+        *place = entry(*slot)?;
     }
     Ok(made)
 }
 
 /// A scratch of such numbers.
 pub fn scratch<const N: usize>(numbers: [u32; N]) -> [ItemIndex; N] {
+    // an array's `map` asks for a bound on N
     let mut places = [ItemIndex::SENTINEL; N];
-    for at in 0..N {
-        places[at] = ItemIndex::new(numbers[at]);
+    for (place, number) in places.iter_mut().zip(&numbers) {
+        *place = ItemIndex::new(*number);
     }
     places
 }

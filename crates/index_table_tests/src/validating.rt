@@ -6,6 +6,7 @@ use panel_items::Stay;
 use std::process::Abort;
 use std::test::*;
 
+// The numbers of the faults, written out: a fault is told by its number.
 const TABLE_LENGTH: u8 = 16;
 
 const REPEATED: u8 = 17;
@@ -25,14 +26,10 @@ fn is_fault(
     number: u8,
     place: usize,
 ) -> Result<(), Fail> {
-    match answer {
-        Ok(()) => Err(Fail::new("no fault was found")),
-        Err(fault) => {
-            assert_eq!(rt; fault.number(), number, "{numbers:?}");
-            assert_eq!(rt; fault.place(), place, "{numbers:?}");
-            Ok(())
-        }
-    }
+    let fault = answer.err().ok_or("no fault was found")?;
+    assert_eq!(rt; fault.number(), number, "{numbers:?}");
+    assert_eq!(rt; fault.place(), place, "{numbers:?}");
+    Ok(())
 }
 
 /// The entries have this fault at this place, where there are to be `len` of them.
