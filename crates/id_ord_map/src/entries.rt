@@ -126,11 +126,7 @@ impl<T: IdOrdItem> Entry<T> {
             Entry::Occupied(entry) => entry
                 .into_mut(map)
                 .map_err(|_| OrInsertRefusal::Stale { item }),
-            Entry::Vacant(entry) => match entry.insert(map, item) {
-                Ok(added) => Ok(added),
-                Err(InsertRefusal::Duplicate(refusal)) => Err(OrInsertRefusal::Duplicate(refusal)),
-                Err(InsertRefusal::Full(refusal)) => Err(OrInsertRefusal::Full(refusal)),
-            },
+            Entry::Vacant(entry) => Ok(entry.insert(map, item)?),
         }
     }
 }
