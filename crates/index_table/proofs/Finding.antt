@@ -26,11 +26,7 @@ module _ {T : Type 0} {order : T → T → Ordering} (lawful : LawfulOrder order
   -- what x is not Less than, it is Greater than all before
   before : (y z : T) → order y z ≡ Less → (order x z ≡ Less → ⊥) → order x y ≡ Greater
   before y z less not =
-      elim (answer (order x z)) [
-        | is_less e ↦ absurd (not e)
-        | is_equal e ↦ lawful.alike x z y e ∙ less_swaps lawful y z less
-        | is_greater e ↦ less_swaps lawful y x (lawful.transitive y z x less (greater_swaps lawful x z e))
-      ]
+      let alike = lawful.alike x z y in let onward = lawful.transitive y z x less in let swaps = less_swaps lawful in let swaps_back = greater_swaps lawful x z in grind arith
 
   before_all : (y : T) (ys : List T) (j : ℕ) → Below order y ys → j < length ys → (get_or (map (order x) ys) j Less ≡ Less → ⊥) → order x y ≡ Greater
   before_all y [] j below inside not = absurd (omega arith)
@@ -47,19 +43,10 @@ module _ {T : Type 0} {order : T → T → Ordering} (lawful : LawfulOrder order
   none_smaller : (y : T) (ys : List T) → Below order y ys → (order x y ≡ Greater → ⊥) → smaller order x ys ≡ 0
   none_smaller y [] below not = refl
   none_smaller y (z ∷ ys) below not =
-      elim (answer (order z x)) [
-        | is_less e ↦ absurd (not (less_swaps lawful y x (lawful.transitive y z x below.0 e)))
-        | is_equal e ↦ ap (λ (o : Ordering). counting order o (smaller order x ys)) e ∙ none_smaller y ys below.1 not
-        | is_greater e ↦ ap (λ (o : Ordering). counting order o (smaller order x ys)) e ∙ none_smaller y ys below.1 not
-      ]
+      let rest = none_smaller y ys below.1 not in let onward = lawful.transitive y z x below.0 in let swaps = less_swaps lawful y x in grind arith
 
   not_less : (y : T) → (order x y ≡ Greater → ⊥) → (n : ℕ) → counting order (order y x) n ≡ n
-  not_less y not n =
-      elim (answer (order y x)) [
-        | is_less e ↦ absurd (not (less_swaps lawful y x e))
-        | is_equal e ↦ ap (λ (o : Ordering). counting order o n) e
-        | is_greater e ↦ ap (λ (o : Ordering). counting order o n) e
-      ]
+  not_less y not n = let swaps = less_swaps lawful y x in grind arith
 
   pub smaller_is : (w : List T) (p : ℕ) → Ascending order w → p ≤ length w → Past (λ n. get_or (map (order x) w) n Less) p
       → (p < length w → get_or (map (order x) w) p Less ≡ Greater → ⊥) → smaller order x w ≡ p

@@ -1,5 +1,5 @@
 -- Entries that each name an item Greater than the one before, looked at one by one.
-use Rattle.std.proofs.Common.{◌≡◌, Bool, true, false, cond, List, [], ◌∷◌, Some, None, Option, Ordering, Less, Equal, Greater, sym, refl, ap, ◌∙◌, subst}
+use Rattle.std.proofs.Common.{◌≡◌, Bool, true, false, cond, List, [], ◌∷◌, Some, None, Option, Ordering, Less, Equal, Greater, sym, refl, ap, ◌∙◌, subst, arith}
 use Rattle.std.proofs.lemmas.Bool.{cond-true}
 use Rattle.std.specs.Ordering.{is_gt}
 use Rattle.id_ord_item.specs.Order.{LawfulOrder}
@@ -33,11 +33,7 @@ module _ {T : Type 0} (order : T → T → Ordering) (slots : List (ItemSlot T))
 
   risen_true : (slot : ItemSlot T) (before : Option T) (rest : T → Bool) → risen slot before rest ≡ true
       → (x : T) × ((slot ≡ Occupied x) × ((followed order before x ≡ true) × (rest x ≡ true)))
-  risen_true (Occupied x) before rest e = by (followed order before x) refl e
-    where
-      by : (b : Bool) → followed order before x ≡ b → cond b (rest x) false ≡ true → (y : T) × ((Occupied x ≡ Occupied y) × ((followed order before y ≡ true) × (rest y ≡ true)))
-      by true t e = (x, (refl, (t, e)))
-      by false t e = cc
+  risen_true (Occupied x) before rest e = (x, (refl, (grind arith, grind arith)))
   risen_true (Vacant next) before rest e = cc
 
 greater_if : (o : Ordering) → is_gt o ≡ true → o ≡ Greater
