@@ -53,11 +53,10 @@ module _ {T : Type 0} {order : T → T → Ordering} (lawful : LawfulOrder order
   smaller_is [] zero ascending le past here = refl
   smaller_is [] (suc p) ascending le past here = absurd (omega arith)
   smaller_is (y ∷ w) zero ascending le past here =
-      let not = here (omega arith) in not_less y not (smaller order x w) ∙ none_smaller y w ascending.0 not
+      let not = here (omega arith) in let none = none_smaller y w ascending.0 not in let same = not_less y not (smaller order x w) in grind arith
   smaller_is (y ∷ w) (suc p) ascending le past here =
-      let less : order y x ≡ Less = greater_swaps lawful x y (past 0 (omega arith)) in
-      ap (λ (o : Ordering). counting order o (smaller order x w)) less
-      ∙ ap suc (smaller_is w p ascending.1 (omega arith) (λ i h. past (suc i) (omega arith)) (λ h e. here (omega arith) e))
+      let less = greater_swaps lawful x y (past 0 (omega arith)) in
+      let rest = smaller_is w p ascending.1 (omega arith) (λ i h. past (suc i) (omega arith)) (λ h e. here (omega arith) e) in grind arith
 
   module _ (slots : List (ItemSlot T)) where
     pub hold : (e : Index) (y : T) (o : Ordering) (later : Option ItemIndex) → seen slots e ≡ Occupied y → order x y ≡ o
@@ -69,12 +68,10 @@ module _ {T : Type 0} {order : T → T → Ordering} (lawful : LawfulOrder order
         → get_or (map (order x) w) p Less ≡ Equal → slot_of order x slots entries ≡ Some (get_or entries p d).0
     slot_found [] w p d named inside past here = absurd (omega arith)
     slot_found (e ∷ entries) [] p d named inside past here = cc
-    slot_found (e ∷ entries) (y ∷ w) zero d named inside past here =
-        let holds : seen slots e ≡ Occupied y = cc in hold e y Equal (slot_of order x slots entries) holds here
+    slot_found (e ∷ entries) (y ∷ w) zero d named inside past here = let holds : seen slots e ≡ Occupied y = cc in grind arith
     slot_found (e ∷ entries) (y ∷ w) (suc p) d named inside past here =
-        let holds : seen slots e ≡ Occupied y = cc in let rest : Names slots entries w = cc in
-        hold e y Greater (slot_of order x slots entries) holds (past 0 (omega arith))
-        ∙ slot_found entries w p d rest (omega arith) (λ i h. past (suc i) (omega arith)) here
+        let holds : seen slots e ≡ Occupied y = cc in let rest : Names slots entries w = cc in let passed = past 0 (omega arith) in
+        let later = slot_found entries w p d rest (omega arith) (λ i h. past (suc i) (omega arith)) here in grind arith
 
     -- after an item that x is Less than, none is Equal to x
     none_equal : (y : T) (entries : List Index) (w : List T) → Names slots entries w → Below order y w → order x y ≡ Less → slot_of order x slots entries ≡ None

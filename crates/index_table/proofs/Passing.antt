@@ -1,6 +1,6 @@
 -- The entries that pass every test are those that name ascending items.
-use Rattle.std.proofs.Common.{◌≡◌, ℕ, zero, suc, ◌-◌, ◌<◌, ◌≤◌, Bool, true, false, not, eqb, List, [], ◌∷◌, length, Some, None, Option, Ordering, sym, refl, ap, ◌∙◌, ap₂, arith}
-use Rattle.std.proofs.lemmas.Bool.{cond-true, cond-false, eq-eqb, eqb-true, both_ways}
+use Rattle.std.proofs.Common.{◌≡◌, ℕ, zero, suc, ◌-◌, ◌<◌, ◌≤◌, Bool, true, false, not, List, [], ◌∷◌, length, Some, None, Option, Ordering, sym, refl, ap, ◌∙◌, ap₂, arith}
+use Rattle.std.proofs.lemmas.Bool.{cond-true, eq-eqb, both_ways}
 use Rattle.std.specs.Ordering.{is_gt}
 use Rattle.id_ord_item.specs.Order.{LawfulOrder}
 use Rattle.id_ord_item.proofs.Order.{less_swaps}
@@ -31,13 +31,7 @@ module _ {T : Type 0} where
 
   -- there are len entries, and each names an item
   none_faulty : (slots : List (ItemSlot T)) (es : List Index) (len : ℕ) → table_fault slots es len ≡ None → (length es ≡ len) × (first_place (nameless slots es) (length es) 0 ≡ None)
-  none_faulty slots es len e = by (eqb (length es) len) refl e
-    where
-      by : (agrees : Bool) → eqb (length es) len ≡ agrees → table_fault slots es len ≡ None → (length es ≡ len) × (first_place (nameless slots es) (length es) 0 ≡ None)
-      by true t e =
-          let rest = (no_other Repeated (first_place (repeats es) (length es) 0) _ (sym (cond-true _ _ _ t) ∙ e)).1 in
-          (eqb-true (length es) len t, (no_other NotHeld (first_place (nameless slots es) (length es) 0) None rest).0)
-      by false t e = let f = sym (cond-false _ _ _ t) ∙ e in cc
+  none_faulty slots es len e = (grind arith, grind arith)
 
 module _ {T : Type 0} {order : T → T → Ordering} (lawful : LawfulOrder order) (slots : List (ItemSlot T)) where
   -- place by place, each item Greater than the one before
