@@ -78,22 +78,19 @@ module _ {T : Type 0} {order : T → T → Ordering} (lawful : LawfulOrder order
     none_equal y [] w named below less = refl
     none_equal y (e ∷ entries) [] named below less = cc
     none_equal y (e ∷ entries) (z ∷ w) named below less =
-        let holds : seen slots e ≡ Occupied z = cc in let rest : Names slots entries w = cc in
-        hold e z Less (slot_of order x slots entries) holds (lawful.transitive x y z less below.0)
-        ∙ none_equal y entries w rest below.1 less
+        let holds : seen slots e ≡ Occupied z = cc in let names : Names slots entries w = cc in
+        let far = lawful.transitive x y z less below.0 in let rest = none_equal y entries w names below.1 less in grind arith
 
     pub slot_missing : (entries : List Index) (w : List T) (p : ℕ) → Names slots entries w → Ascending order w → p ≤ length w → Past (λ n. get_or (map (order x) w) n Less) p
         → (p < length w → get_or (map (order x) w) p Less ≡ Less) → slot_of order x slots entries ≡ None
     slot_missing [] w p named ascending le past here = refl
     slot_missing (e ∷ entries) [] p named ascending le past here = cc
     slot_missing (e ∷ entries) (y ∷ w) zero named ascending le past here =
-        let holds : seen slots e ≡ Occupied y = cc in let rest : Names slots entries w = cc in
-        let less = here (omega arith) in
-        hold e y Less (slot_of order x slots entries) holds less ∙ none_equal y entries w rest ascending.0 less
+        let holds : seen slots e ≡ Occupied y = cc in let names : Names slots entries w = cc in
+        let less = here (omega arith) in let rest = none_equal y entries w names ascending.0 less in grind arith
     slot_missing (e ∷ entries) (y ∷ w) (suc p) named ascending le past here =
-        let holds : seen slots e ≡ Occupied y = cc in let rest : Names slots entries w = cc in
-        hold e y Greater (slot_of order x slots entries) holds (past 0 (omega arith))
-        ∙ slot_missing entries w p rest ascending.1 (omega arith) (λ i h. past (suc i) (omega arith)) (λ h. here (omega arith))
+        let holds : seen slots e ≡ Occupied y = cc in let names : Names slots entries w = cc in let passed = past 0 (omega arith) in
+        let rest = slot_missing entries w p names ascending.1 (omega arith) (λ i h. past (suc i) (omega arith)) (λ h. here (omega arith)) in grind arith
 
 -- what the search of a table finds
 module _ {T : Type 0} {order : T → T → Ordering} (lawful : LawfulOrder order) (x : T) (slots : List (ItemSlot T)) (entries : List Index)
