@@ -26,11 +26,7 @@ module _ {T : Type 0} {order : T → T → Ordering} (lawful : LawfulOrder order
   -- what x is not Less than, it is Greater than all before
   before : (y z : T) → order y z ≡ Less → (order x z ≡ Less → ⊥) → order x y ≡ Greater
   before y z less not =
-      elim (answer (order x z)) [
-        | is_less e ↦ absurd (not e)
-        | is_equal e ↦ lawful.alike x z y e ∙ less_swaps lawful y z less
-        | is_greater e ↦ less_swaps lawful y x (lawful.transitive y z x less (greater_swaps lawful x z e))
-      ]
+      let alike = lawful.alike x z y in let onward = lawful.transitive y z x less in let swaps = less_swaps lawful in let swaps_back = greater_swaps lawful x z in grind arith
 
   before_all : (y : T) (ys : List T) (j : ℕ) → Below order y ys → j < length ys → (get_or (map (order x) ys) j Less ≡ Less → ⊥) → order x y ≡ Greater
   before_all y [] j below inside not = absurd (omega arith)
@@ -47,30 +43,20 @@ module _ {T : Type 0} {order : T → T → Ordering} (lawful : LawfulOrder order
   none_smaller : (y : T) (ys : List T) → Below order y ys → (order x y ≡ Greater → ⊥) → smaller order x ys ≡ 0
   none_smaller y [] below not = refl
   none_smaller y (z ∷ ys) below not =
-      elim (answer (order z x)) [
-        | is_less e ↦ absurd (not (less_swaps lawful y x (lawful.transitive y z x below.0 e)))
-        | is_equal e ↦ ap (λ (o : Ordering). counting order o (smaller order x ys)) e ∙ none_smaller y ys below.1 not
-        | is_greater e ↦ ap (λ (o : Ordering). counting order o (smaller order x ys)) e ∙ none_smaller y ys below.1 not
-      ]
+      let rest = none_smaller y ys below.1 not in let onward = lawful.transitive y z x below.0 in let swaps = less_swaps lawful y x in grind arith
 
   not_less : (y : T) → (order x y ≡ Greater → ⊥) → (n : ℕ) → counting order (order y x) n ≡ n
-  not_less y not n =
-      elim (answer (order y x)) [
-        | is_less e ↦ absurd (not (less_swaps lawful y x e))
-        | is_equal e ↦ ap (λ (o : Ordering). counting order o n) e
-        | is_greater e ↦ ap (λ (o : Ordering). counting order o n) e
-      ]
+  not_less y not n = let swaps = less_swaps lawful y x in grind arith
 
   pub smaller_is : (w : List T) (p : ℕ) → Ascending order w → p ≤ length w → Past (λ n. get_or (map (order x) w) n Less) p
       → (p < length w → get_or (map (order x) w) p Less ≡ Greater → ⊥) → smaller order x w ≡ p
   smaller_is [] zero ascending le past here = refl
   smaller_is [] (suc p) ascending le past here = absurd (omega arith)
   smaller_is (y ∷ w) zero ascending le past here =
-      let not = here (omega arith) in not_less y not (smaller order x w) ∙ none_smaller y w ascending.0 not
+      let not = here (omega arith) in let none = none_smaller y w ascending.0 not in let same = not_less y not (smaller order x w) in grind arith
   smaller_is (y ∷ w) (suc p) ascending le past here =
-      let less : order y x ≡ Less = greater_swaps lawful x y (past 0 (omega arith)) in
-      ap (λ (o : Ordering). counting order o (smaller order x w)) less
-      ∙ ap suc (smaller_is w p ascending.1 (omega arith) (λ i h. past (suc i) (omega arith)) (λ h e. here (omega arith) e))
+      let less = greater_swaps lawful x y (past 0 (omega arith)) in
+      let rest = smaller_is w p ascending.1 (omega arith) (λ i h. past (suc i) (omega arith)) (λ h e. here (omega arith) e) in grind arith
 
   module _ (slots : List (ItemSlot T)) where
     pub hold : (e : Index) (y : T) (o : Ordering) (later : Option ItemIndex) → seen slots e ≡ Occupied y → order x y ≡ o
@@ -82,34 +68,29 @@ module _ {T : Type 0} {order : T → T → Ordering} (lawful : LawfulOrder order
         → get_or (map (order x) w) p Less ≡ Equal → slot_of order x slots entries ≡ Some (get_or entries p d).0
     slot_found [] w p d named inside past here = absurd (omega arith)
     slot_found (e ∷ entries) [] p d named inside past here = cc
-    slot_found (e ∷ entries) (y ∷ w) zero d named inside past here =
-        let holds : seen slots e ≡ Occupied y = cc in hold e y Equal (slot_of order x slots entries) holds here
+    slot_found (e ∷ entries) (y ∷ w) zero d named inside past here = let holds : seen slots e ≡ Occupied y = cc in grind arith
     slot_found (e ∷ entries) (y ∷ w) (suc p) d named inside past here =
-        let holds : seen slots e ≡ Occupied y = cc in let rest : Names slots entries w = cc in
-        hold e y Greater (slot_of order x slots entries) holds (past 0 (omega arith))
-        ∙ slot_found entries w p d rest (omega arith) (λ i h. past (suc i) (omega arith)) here
+        let holds : seen slots e ≡ Occupied y = cc in let rest : Names slots entries w = cc in let passed = past 0 (omega arith) in
+        let later = slot_found entries w p d rest (omega arith) (λ i h. past (suc i) (omega arith)) here in grind arith
 
     -- after an item that x is Less than, none is Equal to x
     none_equal : (y : T) (entries : List Index) (w : List T) → Names slots entries w → Below order y w → order x y ≡ Less → slot_of order x slots entries ≡ None
     none_equal y [] w named below less = refl
     none_equal y (e ∷ entries) [] named below less = cc
     none_equal y (e ∷ entries) (z ∷ w) named below less =
-        let holds : seen slots e ≡ Occupied z = cc in let rest : Names slots entries w = cc in
-        hold e z Less (slot_of order x slots entries) holds (lawful.transitive x y z less below.0)
-        ∙ none_equal y entries w rest below.1 less
+        let holds : seen slots e ≡ Occupied z = cc in let names : Names slots entries w = cc in
+        let far = lawful.transitive x y z less below.0 in let rest = none_equal y entries w names below.1 less in grind arith
 
     pub slot_missing : (entries : List Index) (w : List T) (p : ℕ) → Names slots entries w → Ascending order w → p ≤ length w → Past (λ n. get_or (map (order x) w) n Less) p
         → (p < length w → get_or (map (order x) w) p Less ≡ Less) → slot_of order x slots entries ≡ None
     slot_missing [] w p named ascending le past here = refl
     slot_missing (e ∷ entries) [] p named ascending le past here = cc
     slot_missing (e ∷ entries) (y ∷ w) zero named ascending le past here =
-        let holds : seen slots e ≡ Occupied y = cc in let rest : Names slots entries w = cc in
-        let less = here (omega arith) in
-        hold e y Less (slot_of order x slots entries) holds less ∙ none_equal y entries w rest ascending.0 less
+        let holds : seen slots e ≡ Occupied y = cc in let names : Names slots entries w = cc in
+        let less = here (omega arith) in let rest = none_equal y entries w names ascending.0 less in grind arith
     slot_missing (e ∷ entries) (y ∷ w) (suc p) named ascending le past here =
-        let holds : seen slots e ≡ Occupied y = cc in let rest : Names slots entries w = cc in
-        hold e y Greater (slot_of order x slots entries) holds (past 0 (omega arith))
-        ∙ slot_missing entries w p rest ascending.1 (omega arith) (λ i h. past (suc i) (omega arith)) (λ h. here (omega arith))
+        let holds : seen slots e ≡ Occupied y = cc in let names : Names slots entries w = cc in let passed = past 0 (omega arith) in
+        let rest = slot_missing entries w p names ascending.1 (omega arith) (λ i h. past (suc i) (omega arith)) (λ h. here (omega arith)) in grind arith
 
 -- what the search of a table finds
 module _ {T : Type 0} {order : T → T → Ordering} (lawful : LawfulOrder order) (x : T) (slots : List (ItemSlot T)) (entries : List Index)

@@ -1,7 +1,6 @@
 -- The entries that pass every test are those that name ascending items.
-use Rattle.std.proofs.Common.{◌≡◌, ℕ, zero, suc, ◌-◌, ◌<◌, ◌≤◌, Bool, true, false, not, eqb, List, [], ◌∷◌, length, Some, None, Option, Ordering, sym, refl, ap, ◌∙◌, ap₂, arith}
-use Rattle.std.proofs.lemmas.Bool.{cond-true, cond-false, eq-eqb, eqb-true, both_ways}
-use Rattle.std.specs.Ordering.{is_gt}
+use Rattle.std.proofs.Common.{◌≡◌, ℕ, zero, suc, ◌-◌, ◌<◌, ◌≤◌, Bool, true, false, not, List, [], ◌∷◌, length, Some, None, Option, Ordering, sym, refl, ap, ◌∙◌, arith}
+use Rattle.std.proofs.lemmas.Bool.{cond-true, eq-eqb, both_ways}
 use Rattle.id_ord_item.specs.Order.{LawfulOrder}
 use Rattle.id_ord_item.proofs.Order.{less_swaps}
 use Rattle.item_set.specs.Slots.{held}
@@ -13,7 +12,7 @@ use Rattle.index_table.specs.declared.entry.Index.{Index}
 use Rattle.index_table.specs.declared.fault.TableFault.TheVariants.{Repeated, NotHeld}
 use Rattle.index_table.proofs.Checking.{none_nameless, none_repeats}
 use Rattle.index_table.proofs.Places.{first_none, from_none, none_from}
-use Rattle.index_table.proofs.Rising.{rising, risen, ascending_if}
+use Rattle.index_table.proofs.Rising.{rising, ascending_if}
 use Rattle.index_table.proofs.Walking.{Names}
 
 no_other : {F : Type 0} (fault : ℕ → F) (place : Option ℕ) (other : Option F) → or_else fault place other ≡ None → (place ≡ None) × (other ≡ None)
@@ -31,13 +30,7 @@ module _ {T : Type 0} where
 
   -- there are len entries, and each names an item
   none_faulty : (slots : List (ItemSlot T)) (es : List Index) (len : ℕ) → table_fault slots es len ≡ None → (length es ≡ len) × (first_place (nameless slots es) (length es) 0 ≡ None)
-  none_faulty slots es len e = by (eqb (length es) len) refl e
-    where
-      by : (agrees : Bool) → eqb (length es) len ≡ agrees → table_fault slots es len ≡ None → (length es ≡ len) × (first_place (nameless slots es) (length es) 0 ≡ None)
-      by true t e =
-          let rest = (no_other Repeated (first_place (repeats es) (length es) 0) _ (sym (cond-true _ _ _ t) ∙ e)).1 in
-          (eqb-true (length es) len t, (no_other NotHeld (first_place (nameless slots es) (length es) 0) None rest).0)
-      by false t e = let f = sym (cond-false _ _ _ t) ∙ e in cc
+  none_faulty slots es len e = (grind arith, grind arith)
 
 module _ {T : Type 0} {order : T → T → Ordering} (lawful : LawfulOrder order) (slots : List (ItemSlot T)) where
   -- place by place, each item Greater than the one before
@@ -51,10 +44,8 @@ module _ {T : Type 0} {order : T → T → Ordering} (lawful : LawfulOrder order
       let item = an_item (seen slots e) (named 0 (omega arith)) in
       let x = item.0 in let here = item.1 in
       let follows : followed order before x ≡ true = ap (λ (s : ItemSlot T). comes_after order before (held s)) (sym here) ∙ first (omega arith) in
-      ap (λ (s : ItemSlot T). risen order slots s before (λ y. rising order slots (Some y) es)) here
-      ∙ cond-true _ _ _ follows
-      ∙ rising_by_places (Some x) es (λ k h. named (suc k) (omega arith)) later
-      (λ h. ap (λ (s : ItemSlot T). comes_after order (held s) (held (seen slots (entry_at es 0)))) (sym here) ∙ if_not _ (up 1 (omega arith) (omega arith)))
+      let rest = rising_by_places (Some x) es (λ k h. named (suc k) (omega arith)) later
+      (λ h. ap (λ (s : ItemSlot T). comes_after order (held s) (held (seen slots (entry_at es 0)))) (sym here) ∙ if_not _ (up 1 (omega arith) (omega arith))) in grind arith
     where
       later : (k : ℕ) → 1 ≤ k → k < length es → unordered order slots es k ≡ false
       later zero low h = absurd (omega arith)
@@ -87,8 +78,7 @@ module _ {T : Type 0} {order : T → T → Ordering} (lawful : LawfulOrder order
   neighbours (e ∷ (f ∷ es)) (x ∷ []) k names up inside = cc
   neighbours (e ∷ (f ∷ es)) (x ∷ (y ∷ w)) zero names up inside =
       let here : seen slots e ≡ Occupied x = cc in let there : seen slots f ≡ Occupied y = cc in
-      ap₂ (λ (s t : ItemSlot T). comes_after order (held s) (held t)) here there
-      ∙ ap is_gt (less_swaps lawful x y up.0.0)
+      let greater = less_swaps lawful x y up.0.0 in grind arith
   neighbours (e ∷ (f ∷ es)) (x ∷ (y ∷ w)) (suc k) names up inside =
       let rest : Names slots (f ∷ es) (y ∷ w) = cc in neighbours (f ∷ es) (y ∷ w) k rest up.1 (omega arith)
 

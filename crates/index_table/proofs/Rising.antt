@@ -1,6 +1,5 @@
 -- Entries that each name an item Greater than the one before, looked at one by one.
-use Rattle.std.proofs.Common.{◌≡◌, Bool, true, false, cond, List, [], ◌∷◌, Some, None, Option, Ordering, Less, Equal, Greater, sym, refl, ap, ◌∙◌, subst}
-use Rattle.std.proofs.lemmas.Bool.{cond-true}
+use Rattle.std.proofs.Common.{◌≡◌, Bool, true, false, cond, List, [], ◌∷◌, Some, None, Option, Ordering, Less, Equal, Greater, sym, refl, ap, subst, arith}
 use Rattle.std.specs.Ordering.{is_gt}
 use Rattle.id_ord_item.specs.Order.{LawfulOrder}
 use Rattle.id_ord_item.proofs.Order.{less_swaps, greater_swaps}
@@ -33,11 +32,7 @@ module _ {T : Type 0} (order : T → T → Ordering) (slots : List (ItemSlot T))
 
   risen_true : (slot : ItemSlot T) (before : Option T) (rest : T → Bool) → risen slot before rest ≡ true
       → (x : T) × ((slot ≡ Occupied x) × ((followed order before x ≡ true) × (rest x ≡ true)))
-  risen_true (Occupied x) before rest e = by (followed order before x) refl e
-    where
-      by : (b : Bool) → followed order before x ≡ b → cond b (rest x) false ≡ true → (y : T) × ((Occupied x ≡ Occupied y) × ((followed order before y ≡ true) × (rest y ≡ true)))
-      by true t e = (x, (refl, (t, e)))
-      by false t e = cc
+  risen_true (Occupied x) before rest e = (x, (refl, (grind arith, grind arith)))
   risen_true (Vacant next) before rest e = cc
 
 greater_if : (o : Ordering) → is_gt o ≡ true → o ≡ Greater
@@ -79,10 +74,8 @@ module _ {T : Type 0} {order : T → T → Ordering} (lawful : LawfulOrder order
   rising_if before [] w named ascending above = refl
   rising_if before (e ∷ entries) [] named ascending above = cc
   rising_if before (e ∷ entries) (x ∷ w) named ascending above =
-      let here : seen slots e ≡ Occupied x = cc in let rest : Names slots entries w = cc in
-      ap (λ (s : ItemSlot T). risen order slots s before (λ y. rising order slots (Some y) entries)) here
-      ∙ cond-true _ _ _ (followed_if before x w above)
-      ∙ rising_if (Some x) entries w rest ascending.1 ascending.0
+      let here : seen slots e ≡ Occupied x = cc in let names : Names slots entries w = cc in
+      let follows = followed_if before x w above in let rest = rising_if (Some x) entries w names ascending.1 ascending.0 in grind arith
 
   -- entries are rising just where they name ascending items
   pub ascending_if : (entries : List Index) → rising order slots None entries ≡ true → Named slots entries × Ascending order (walk slots entries)

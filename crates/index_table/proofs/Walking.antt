@@ -2,8 +2,8 @@
 use Rattle.std.proofs.Common.{◌≡◌, ℕ, zero, suc, ◌<◌, ◌≤◌, List, [], ◌∷◌, map, length, get_or, Some, None, Ordering, sym, refl, ap, ◌∙◌, arith}
 use Rattle.item_set.specs.declared.slot.ItemSlot.{ItemSlot}
 use Rattle.item_set.specs.declared.slot.ItemSlot.TheVariants.{Occupied}
-use Rattle.index_table.specs.Search.{asked, answers_of}
-use Rattle.index_table.specs.Walk.{slot_at, seen, onto, walk, Named}
+use Rattle.index_table.specs.Search.{answers_of}
+use Rattle.index_table.specs.Walk.{slot_at, seen, walk, Named}
 use Rattle.index_table.specs.declared.entry.Index.{Index}
 
 module _ {T : Type 0} (slots : List (ItemSlot T)) where
@@ -23,8 +23,7 @@ module _ {T : Type 0} (slots : List (ItemSlot T)) where
   names_walk [] (x ∷ w) named = cc
   names_walk (e ∷ entries) [] named = cc
   names_walk (e ∷ entries) (x ∷ w) named =
-      let here : seen slots e ≡ Occupied x = cc in let rest : Names entries w = cc in
-      ap (λ (s : ItemSlot T). onto s (walk slots entries)) here ∙ ap (λ (l : List T). x ∷ l) (names_walk entries w rest)
+      let here : seen slots e ≡ Occupied x = cc in let names : Names entries w = cc in let rest = names_walk entries w names in grind arith
 
   pub named_if_names : (entries : List Index) (w : List T) → Names entries w → Named slots entries
   named_if_names entries w named = named ∙ ap (map Occupied) (sym (names_walk entries w named))
@@ -34,8 +33,7 @@ module _ {T : Type 0} (slots : List (ItemSlot T)) where
   answers_named ask [] (x ∷ w) named = cc
   answers_named ask (e ∷ entries) [] named = cc
   answers_named ask (e ∷ entries) (x ∷ w) named =
-      let here : seen slots e ≡ Occupied x = cc in let rest : Names entries w = cc in
-      ap (λ (s : ItemSlot T). asked ask s ∷ answers_of ask slots entries) here ∙ ap (λ (l : List Ordering). ask x ∷ l) (answers_named ask entries w rest)
+      let here : seen slots e ≡ Occupied x = cc in let names : Names entries w = cc in let rest = answers_named ask entries w names in grind arith
 
 -- the slot at a place
 pub slot_at_past : (entries : List Index) (k : ℕ) → length entries ≤ k → slot_at entries k ≡ None
