@@ -13,6 +13,7 @@ pub struct DuplicateItem<T> {
 
 /// FULL, number 2: the key of an item to be added does not stand, and the map holds as many items as it can.
 /// The item offered comes back.
+// apart from the other records of one item, so that the type of an answer says what was refused
 #[derive(Clone, Copy, PartialEq, Eq, Debug)]
 pub struct MapFull<T> {
     pub item: T,
@@ -36,6 +37,7 @@ pub enum OrInsertRefusal<T> {
 
 impl<T> DuplicateItem<T> {
     /// The number of the refusal.
+    // one row of numbers goes through all kinds of refusal, and callers go by it
     pub fn number(&self) -> u8
         ensures { result ≡ number_of (duplicated self.now) }
     {
@@ -45,6 +47,7 @@ impl<T> DuplicateItem<T> {
 
 impl<T> MapFull<T> {
     /// The number of the refusal.
+    // one row of numbers goes through all kinds of refusal, and callers go by it
     pub fn number(&self) -> u8
         ensures { result ≡ number_of (no_room self.now) }
     {
@@ -54,6 +57,7 @@ impl<T> MapFull<T> {
 
 impl<T> InsertRefusal<T> {
     /// The number of the refusal.
+    // one row of numbers goes through all kinds of refusal, and callers go by it
     pub fn number(&self) -> u8
         ensures { result ≡ number_of (not_inserted self.now) }
     {
@@ -66,6 +70,7 @@ impl<T> InsertRefusal<T> {
 
 impl<T> OrInsertRefusal<T> {
     /// The number of the refusal.
+    // one row of numbers goes through all kinds of refusal, and callers go by it
     pub fn number(&self) -> u8
         ensures { result ≡ number_of (not_entered self.now) }
     {

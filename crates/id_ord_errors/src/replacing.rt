@@ -3,6 +3,7 @@ ghost use Rattle.std.specs.Prelude.{◌≡◌};
 ghost use Rattle.id_ord_errors.specs.Refusal.{number_of, key_other, not_replaced, gone};
 
 /// KEY_CHANGED, number 3: the key of an item as changed is not the key that it had. The item as changed comes back.
+// apart from the other records of one item, so that the type of an answer says what was refused
 #[derive(Clone, Copy, PartialEq, Eq, Debug)]
 pub struct KeyChanged<T> {
     pub item: T,
@@ -22,6 +23,7 @@ pub struct StaleEntry;
 
 impl<T> KeyChanged<T> {
     /// The number of the refusal.
+    // one row of numbers goes through all kinds of refusal, and callers go by it
     pub fn number(&self) -> u8
         ensures { result ≡ number_of (key_other self.now) }
     {
@@ -31,6 +33,7 @@ impl<T> KeyChanged<T> {
 
 impl<T> ReplaceRefusal<T> {
     /// The number of the refusal.
+    // one row of numbers goes through all kinds of refusal, and callers go by it
     pub fn number(&self) -> u8
         ensures { result ≡ number_of (not_replaced self.now) }
     {
@@ -43,6 +46,7 @@ impl<T> ReplaceRefusal<T> {
 
 impl StaleEntry {
     /// The number of the refusal.
+    // one row of numbers goes through all kinds of refusal, and callers go by it
     pub fn number(self) -> u8
         ensures { result ≡ number_of (gone {T = Unit {0}} self) }
     {

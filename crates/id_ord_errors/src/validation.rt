@@ -29,6 +29,7 @@ pub enum Layer {
 
 impl ValidationError {
     /// The number of the refusal.
+    // one row of numbers goes through all kinds of refusal, and callers go by it
     pub fn number(self) -> u8
         ensures { result ≡ number_of self }
     {

@@ -11,6 +11,7 @@ pub enum Verdict {
     Remove,
 }
 
+// A trait and no closure: the law over runs is told a rule by its ghost members, state and all.
 /// A rule that is shown items one by one and may change each, with a state that moves on.
 ///
 /// `verdict`, `changed` and `next` say of a state and an item what the rule answers, the item as changed, and its next state.

@@ -59,6 +59,7 @@ impl VacantEntry {
     }
 
     /// Adds an item, which may have any key, and answers an entry of it.
+    // the twin of `insert` but for what it answers, as in the Rust, whose names both keep
     pub fn insert_entry<T: IdOrdItem>(
         self,
         map: &mut IdOrdMap<'_, T>,

@@ -17,6 +17,7 @@ impl<'a, T: IdOrdItem> IdOrdMap<'a, T> {
         if len != other.items.len {
             return false;
         }
+        // a map gives its items by place
         for place in 0..len as usize {
             let left = self.item_at(place);
             let right = other.item_at(place);

@@ -13,6 +13,7 @@ use index_table::Index;
 use item_set::{CompactRefusal, IndexRemap, ItemIndex, ItemSet, ItemSlot};
 
 /// Shrinks the parts of a map.
+// it is handed the map's fields, since the map is not sound before the entries follow the items
 fn shrink<T: IdOrdItem>(
     slots: &mut [ItemSlot<T>],
     table: &mut [Index],

@@ -83,6 +83,7 @@ impl<'a, T: IdOrdItem> IdOrdMap<'a, T> {
 }
 
 /// Adds an item whose key does not stand, at the place of its key.
+// it is handed the map's fields, since the map is not sound while one is written and the next is not
 fn add_to<T: IdOrdItem>(
     slots: &mut [ItemSlot<T>],
     table: &mut [Index],
@@ -108,6 +109,7 @@ fn add_to<T: IdOrdItem>(
 }
 
 /// Takes out the item at a place of the walk, which names the slot, and answers it.
+// it is handed the map's fields, as `add_to` is
 fn take_from<T: IdOrdItem>(
     slots: &mut [ItemSlot<T>],
     table: &mut [Index],

@@ -12,8 +12,7 @@ use std::process::Abort;
 use std::test::Fail;
 
 /// Inserts the sailings with the codes below a number.
-fn insert_below(map: &mut IdOrdMap<'_, Sailing>, codes: u64) -> Result<(), Fail>
-{
+fn insert_below(map: &mut IdOrdMap<'_, Sailing>, codes: u64) -> Result<(), Fail> {
     for code in 0..codes {
         map.insert_unique(sailing(code))?;
     }

@@ -17,6 +17,7 @@ const KEYS: u32 = 8;
 const CAPACITY: usize = 6;
 
 /// The next of a row of numbers that look like chance.
+// as in the other long runs, since the crates of tests share none
 fn following(x: u32) -> u32 {
     x.wrapping_mul(1664525).wrapping_add(1013904223)
 }
@@ -35,8 +36,7 @@ impl Run<'_> {
         self.standing.len() < CAPACITY
     }
 
-    fn insert_unique(&mut self, rt: &impl Abort, stay: Stay) -> Result<(), Fail>
-    {
+    fn insert_unique(&mut self, rt: &impl Abort, stay: Stay) -> Result<(), Fail> {
         let fits = self.has_room() && !self.standing.contains_key(&stay.from);
         if fits {
             self.standing.insert(stay.from, stay)?;
@@ -45,8 +45,7 @@ impl Run<'_> {
         Ok(())
     }
 
-    fn or_insert(&mut self, rt: &impl Abort, stay: Stay) -> Result<(), Fail>
-    {
+    fn or_insert(&mut self, rt: &impl Abort, stay: Stay) -> Result<(), Fail> {
         let has_room = self.has_room();
         let stands = self.standing.contains_key(&stay.from);
         if has_room && !stands {
@@ -58,8 +57,7 @@ impl Run<'_> {
         Ok(())
     }
 
-    fn insert_overwrite(&mut self, rt: &impl Abort, stay: Stay) -> Result<(), Fail>
-    {
+    fn insert_overwrite(&mut self, rt: &impl Abort, stay: Stay) -> Result<(), Fail> {
         let fits = self.has_room() || self.standing.contains_key(&stay.from);
         let expected = if fits {
             Some(self.standing.insert(stay.from, stay)?)
@@ -70,25 +68,21 @@ impl Run<'_> {
         Ok(())
     }
 
-    fn pop_first(&mut self, rt: &impl Abort)
-    {
+    fn pop_first(&mut self, rt: &impl Abort) {
         let first = self.standing.pop_first().map(|(_, stay)| stay);
         assert_eq!(rt; self.map.pop_first(), first);
     }
 
-    fn pop_last(&mut self, rt: &impl Abort)
-    {
+    fn pop_last(&mut self, rt: &impl Abort) {
         let last = self.standing.pop_last().map(|(_, stay)| stay);
         assert_eq!(rt; self.map.pop_last(), last);
     }
 
-    fn remove(&mut self, rt: &impl Abort, from: u32)
-    {
+    fn remove(&mut self, rt: &impl Abort, from: u32) {
         assert_eq!(rt; self.map.remove(&at(4, from)), self.standing.remove(&from));
     }
 
-    fn keep_first(&mut self, most: u32) -> Result<(), Fail>
-    {
+    fn keep_first(&mut self, most: u32) -> Result<(), Fail> {
         let standing = &mut self.standing;
         for _ in most as usize..standing.len() {
             standing.pop_last();
@@ -97,8 +91,7 @@ impl Run<'_> {
         Ok(())
     }
 
-    fn clear_and_adopt(&mut self) -> Result<(), Fail>
-    {
+    fn clear_and_adopt(&mut self) -> Result<(), Fail> {
         let kept = self.map.items();
         self.map.clear();
         self.map
@@ -106,8 +99,7 @@ impl Run<'_> {
         Ok(())
     }
 
-    fn put_back(&mut self, rt: &impl Abort, stay: Stay) -> Result<(), Fail>
-    {
+    fn put_back(&mut self, rt: &impl Abort, stay: Stay) -> Result<(), Fail> {
         let Some(mut item) = self.map.get_mut(&stay) else {
             assert_eq!(rt; self.standing.get(&stay.from), None);
             return Ok(());
@@ -119,8 +111,7 @@ impl Run<'_> {
     }
 
     /// One call, chosen by a number that looks like chance.
-    fn make_one_call(&mut self, rt: &impl Abort, x: u32) -> Result<(), Fail>
-    {
+    fn make_one_call(&mut self, rt: &impl Abort, x: u32) -> Result<(), Fail> {
         let from = (x >> 8) % KEYS;
         let stay = of_vessel(4, from, u64::from(x));
         // more stays are added than taken out, so that the map is often full
@@ -142,8 +133,7 @@ impl Run<'_> {
     }
 
     /// The walk of the map is what should stand, after the call that this number chose.
-    fn check_walk(&self, rt: &impl Abort, x: u32)
-    {
+    fn check_walk(&self, rt: &impl Abort, x: u32) {
         for from in 0..KEYS {
             let stay = self.standing.get(&from).copied();
             assert_eq!(rt; self.map.get(&at(4, from)), stay, "after {x}");

@@ -8,8 +8,7 @@ use panel_items::Stay;
 use std::test::Fail;
 
 /// The entry for the key (0,0), which does not stand.
-pub fn vacant_entry(map: &IdOrdMap<'_, Stay>) -> Result<VacantEntry, Fail>
-{
+pub fn vacant_entry(map: &IdOrdMap<'_, Stay>) -> Result<VacantEntry, Fail> {
     match map.entry(&at(0, 0)) {
         Entry::Vacant(entry) => Ok(entry),
         Entry::Occupied(_) => Err(Fail::new("the key (0,0) stands")),
@@ -21,8 +20,7 @@ pub fn occupied_entry(
     map: &IdOrdMap<'_, Stay>,
     berth: u16,
     from: u32,
-) -> Result<OccupiedEntry<Stay>, Fail>
-{
+) -> Result<OccupiedEntry<Stay>, Fail> {
     match map.entry(&at(berth, from)) {
         Entry::Occupied(entry) => Ok(entry),
         Entry::Vacant(_) => Err(Fail::new("the key does not stand")),
@@ -30,8 +28,7 @@ pub fn occupied_entry(
 }
 
 /// The stay with a key, which stands, taken for a change.
-pub fn taken(map: &IdOrdMap<'_, Stay>, berth: u16, from: u32) -> Result<RefMut<Stay>, Fail>
-{
+pub fn taken(map: &IdOrdMap<'_, Stay>, berth: u16, from: u32) -> Result<RefMut<Stay>, Fail> {
     map.get_mut(&at(berth, from))
         .ok_or_else(|| Fail::new("the key does not stand"))
 }

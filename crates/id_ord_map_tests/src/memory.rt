@@ -1,4 +1,5 @@
 // Short ways to write stays and faults, and the memory and numbers of a map, in a test.
+// The crates of tests share none, so that each shows its own kinds of items, and no test leans on another's words.
 ghost use Rattle.id_ord_map.specs.View.{view, SameMemory};
 ghost use Rattle.panel_items.specs.Stay.{by_berth_then_from};
 

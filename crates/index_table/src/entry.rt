@@ -18,6 +18,7 @@ pub enum IndexRefusal {
 
 impl IndexRefusal {
     /// The number of the refusal.
+    // one row of numbers goes through all kinds of refusal, and callers go by it
     pub fn number(self) -> u8
         ensures { result ≡ refusal_number self }
     {

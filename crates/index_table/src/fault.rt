@@ -15,6 +15,7 @@ pub enum TableFault {
 
 impl TableFault {
     /// The number of the refusal.
+    // one row of numbers goes through all kinds of refusal, and callers go by it
     pub fn number(self) -> u8
         ensures { result ≡ number_of self }
     {

@@ -6,6 +6,7 @@ ghost use Rattle.index_table.specs.Search.{Falling, Sought};
 
 use std::cmp::Ordering;
 
+// A trait and no closure: the answer at each place is a ghost member, where a closure asks leave for each call.
 /// Something that is looked for among numbered places.
 ///
 /// `answers` says of each place how what is looked for compares with what is there.

@@ -21,8 +21,7 @@ pub struct Board<'m, T: IdOrdItem> {
 
 impl<'m, T: IdOrdItem> Board<'m, T> {
     /// An empty board over this memory.
-    pub fn new(memory: &'m mut Memory<T>) -> Board<'m, T>
-    {
+    pub fn new(memory: &'m mut Memory<T>) -> Board<'m, T> {
         Board {
             map: IdOrdMap::new(memory.slots.as_mut_slice(), memory.table.as_mut_slice()),
             hand: Hand::Empty,

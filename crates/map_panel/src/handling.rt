@@ -89,8 +89,7 @@ impl<T: IdOrdItem> Hand<T> {
     }
 
     /// Looks for a key, and holds the entry of what was found.
-    fn look_up<Q: Comparable<T>>(&mut self, map: &IdOrdMap<'_, T>, query: &Q) -> Handled<T>
-    {
+    fn look_up<Q: Comparable<T>>(&mut self, map: &IdOrdMap<'_, T>, query: &Q) -> Handled<T> {
         let entry = map.entry(query);
         let found = match &entry {
             Entry::Vacant(_) => Handled::Vacant,
@@ -158,8 +157,7 @@ impl<T: IdOrdItem> Hand<T> {
         &mut self,
         map: &mut IdOrdMap<'_, T>,
         handling: Handling<T, Q>,
-    ) -> Result<Handled<T>, Refusal<T>>
-    {
+    ) -> Result<Handled<T>, Refusal<T>> {
         match handling {
             Handling::Take(query) => Ok(Handled::Took(self.take(map, &query))),
             Handling::Change(item) => {

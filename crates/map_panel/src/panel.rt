@@ -19,8 +19,7 @@ pub struct Panel<'m> {
 
 impl<'m> Panel<'m> {
     /// Carries out a command, and prints what was done.
-    fn obey(&mut self, rt: &HostRuntime, command: Command<'_>) -> io::Result<()>
-    {
+    fn obey(&mut self, rt: &HostRuntime, command: Command<'_>) -> io::Result<()> {
         match command {
             Command::Stays(order) => self.stays.serve(rt, order),
             Command::Sailings(order) => self.sailings.serve(rt, order),
@@ -29,8 +28,7 @@ impl<'m> Panel<'m> {
     }
 
     /// Carries out the command of a line, if it has one, or tells what is wrong with the line.
-    fn obey_line(&mut self, rt: &HostRuntime, at: u64, line: &[u8]) -> io::Result<()>
-    {
+    fn obey_line(&mut self, rt: &HostRuntime, at: u64, line: &[u8]) -> io::Result<()> {
         match read_line(line) {
             Ok(None) => Ok(()),
             Ok(Some(command)) => {
@@ -42,8 +40,7 @@ impl<'m> Panel<'m> {
     }
 
     /// Carries out the commands of the input, line by line.
-    fn obey_lines(&mut self, rt: &HostRuntime) -> anyhow::Result<()>
-    {
+    fn obey_lines(&mut self, rt: &HostRuntime) -> anyhow::Result<()> {
         let lines = BufReader::new(rt.alloc(), rt.stdin())?.split(rt.alloc(), b'\n');
         for (at, line) in (1..=u64::MAX).zip(lines) {
             self.obey_line(rt, at, line?.as_slice())?;
@@ -52,8 +49,7 @@ impl<'m> Panel<'m> {
     }
 
     /// Obeys the input, and prints the boards as they are at its end.
-    pub fn show_day(&mut self, rt: &HostRuntime) -> anyhow::Result<()>
-    {
+    pub fn show_day(&mut self, rt: &HostRuntime) -> anyhow::Result<()> {
         self.obey_lines(rt)?;
         println!(rt; "stays:")?;
         self.stays.print_items(rt)?;

@@ -29,8 +29,7 @@ impl<T: Shown> Board<'_, T> {
     }
 
     /// Prints the items in order.
-    pub fn print_items(&self, rt: &HostRuntime) -> io::Result<()>
-    {
+    pub fn print_items(&self, rt: &HostRuntime) -> io::Result<()> {
         // A map gives its items by place.
         for place in 0..self.map.len() as usize {
             if let Some(item) = self.map.iter(place) {
@@ -55,8 +54,7 @@ impl<T: Shown> Board<'_, T> {
     }
 
     /// Keeps the items that a rule keeps, and prints how many.
-    pub fn keep<R: KeepRule<T> + Drop>(&mut self, rt: &HostRuntime, mut rule: R) -> io::Result<()>
-    {
+    pub fn keep<R: KeepRule<T> + Drop>(&mut self, rt: &HostRuntime, mut rule: R) -> io::Result<()> {
         Self::tell(rt, keep_by(&mut self.map, &mut rule))
     }
 
@@ -65,8 +63,7 @@ impl<T: Shown> Board<'_, T> {
         &mut self,
         rt: &HostRuntime,
         order: Order<T, Q>,
-    ) -> io::Result<()>
-    {
+    ) -> io::Result<()> {
         match order {
             Order::Look(look) => Self::tell(rt, look_at(&self.map, look)),
             Order::Change(change) => Self::tell(rt, make_change(&mut self.map, change)),

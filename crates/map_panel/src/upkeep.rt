@@ -66,8 +66,7 @@ fn adopt<T: IdOrdItem>(
 
 impl<T: IdOrdItem> Board<'_, T> {
     /// Shrinks the map, and remembers what became of the slot numbers.
-    fn shrink(&mut self, places: Option<u32>) -> Result<IndexRemap, CompactRefusal>
-    {
+    fn shrink(&mut self, places: Option<u32>) -> Result<IndexRemap, CompactRefusal> {
         let places = places.map_or(self.scratch.len(), |places| places as usize);
         let remap = shrink_within(&mut self.map, self.scratch, places)?;
         self.remap = remap;
@@ -82,15 +81,13 @@ impl<T: IdOrdItem> Board<'_, T> {
     }
 
     /// Remembers the map's numbers.
-    fn save(&mut self) -> ItemSet
-    {
+    fn save(&mut self) -> ItemSet {
         self.saved = self.map.items();
         self.saved
     }
 
     /// Does with the board's memory what is asked.
-    pub fn keep_up(&mut self, upkeep: Upkeep) -> Result<Kempt, Refusal<T>>
-    {
+    pub fn keep_up(&mut self, upkeep: Upkeep) -> Result<Kempt, Refusal<T>> {
         Ok(match upkeep {
             Upkeep::Shrink(places) => Kempt::Shrunk(self.shrink(places)?),
             Upkeep::Remap(slot) => Kempt::Moved(self.remap(slot)?),
