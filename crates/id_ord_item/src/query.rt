@@ -4,6 +4,7 @@ ghost use Rattle.std.specs.Prelude.{◌≡◌};
 use crate::item::IdOrdItem;
 use std::cmp::Ordering;
 
+// A trait and no closure: what a query means is a ghost member, which contracts name.
 /// A query for a key.
 ///
 /// `meant` is the one conceivable item that has the key looked for; the query compares as that item would.

@@ -11,6 +11,7 @@ pub(crate) const CAPACITY_LIMIT: usize = 4096;
 /// Items in the order of their keys, in memory that the caller lends.
 ///
 /// The memory and the numbers are always sound: `adopt` would accept them.
+// What a call does, and that the map is lent the same memory after it, is of two maps and so stands in each contract.
 // The memory is lent and holds no pointer, so it is slots that are named by number, and an array that is sorted by hand.
 #[derive(Drop)]
 pub struct IdOrdMap<'a, T: IdOrdItem> {

@@ -10,6 +10,7 @@ const SLOTS: usize = 12;
 struct Churned {
     numbers: ItemSet,
     slots: [ItemSlot<u32>; SLOTS],
+    // what each slot should hold, by the slot's number
     model: [Option<u32>; SLOTS],
 }
 

@@ -17,6 +17,7 @@ pub enum Order<T, Q> {
     List,
 }
 
+// A command is read whole before anything is done, so it is a value and no function.
 /// What can be asked of the panel.
 #[derive(Drop)]
 pub enum Command<'a> {

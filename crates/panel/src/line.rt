@@ -4,6 +4,7 @@ use panel_items::{Stay, StayAt};
 use std::fmt;
 use std::str::{FromStr, SplitWhitespace, from_utf8};
 
+// A change is read whole before anything is done, so it is a value and no function.
 /// A change at the berths.
 #[derive(Clone, Copy)]
 pub enum Change {

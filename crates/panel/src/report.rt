@@ -4,6 +4,7 @@ use item_set::{ItemIndex, ItemSlot};
 use panel_items::{Stay, StayAt};
 use std::{fmt, iter};
 
+// Their types are other crates', which leave the words to a program.
 /// A slot number, a key, a stay or a slot as it is printed.
 #[derive(Clone, Copy)]
 pub struct Shown<T>(pub T);
