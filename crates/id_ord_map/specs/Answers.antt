@@ -1,6 +1,7 @@
 -- What the calls answer, as the definitions of the steps have it.
 --     inserted r                  `insert_unique`
 --     overwritten r               `insert_overwrite`
+--     added r                     the adding of both, where the key does not stand
 --     removed r                   `remove` and the pops
 --     holds entry, entered r      what an entry holds, and `entry`
 --     fresh item, Fresh r         a `RefMut` of an item that is not changed yet;  the `RefMut` that is answered, if one is, is such
@@ -26,6 +27,10 @@ module _ {T : Type 0} where
   abbrev pub inserted : Result (Unit {0}) (InsertRefusal T) → Answered T
   inserted (Ok u) = done
   inserted (Err refusal) = not_inserted refusal
+
+  abbrev pub added : Result (Unit {0}) (MapFull T) → Answered T
+  added (Ok u) = done
+  added (Err refusal) = no_room refusal
 
   abbrev pub removed : Option T → Answered T
   removed None = none

@@ -6,10 +6,9 @@ ghost use Rattle.id_ord_law.specs.Step.{Meets};
 ghost use Rattle.id_ord_map.specs.Answers.{Fresh, holds, entered, made_mut, made_entry, or_made, replaced, taken_out, took_mut};
 ghost use Rattle.id_ord_map.specs.View.{view, SameMemory};
 
-use crate::looking::same_key;
 use crate::map::IdOrdMap;
 use crate::ref_mut::RefMut;
-use id_ord_errors::{InsertRefusal, KeyChanged, OrInsertRefusal, ReplaceRefusal, StaleEntry};
+use id_ord_errors::{InsertRefusal, OrInsertRefusal, ReplaceRefusal, StaleEntry};
 use id_ord_item::{Comparable, IdOrdItem};
 
 /// The key does not stand. It holds nothing, and can be used once.
@@ -81,13 +80,7 @@ impl<T: IdOrdItem> OccupiedEntry<T> {
         ensures stands { Onward T.IdOrdItem.order (OccupiedInsert self.now.item item) (view map.old) (view map.new) }
         ensures memory { SameMemory map.old map.new }
     {
-        if !same_key(&self.item, &item) {
-            return Err(ReplaceRefusal::KeyChanged(KeyChanged { item }));
-        }
-        let Some(index) = map.find_index(&item) else {
-            return Err(ReplaceRefusal::Stale { item });
-        };
-        Ok(map.replace_in(index, item))
+        map.replace_taken(&self.item, item)
     }
 
     /// Takes out the item that stands under the entry's key, and answers it.

@@ -1,13 +1,15 @@
 // Adding items, and putting items in the place of others.
-ghost use Rattle.std.specs.Prelude.{◌≡◌};
+ghost use Rattle.std.specs.Prelude.{◌≡◌, false};
 ghost use Rattle.id_ord_law.specs.Law.{Onward};
-ghost use Rattle.id_ord_law.specs.Standing.{Call.insert_unique as InsertUnique, Call.insert_overwrite as InsertOverwrite};
-ghost use Rattle.id_ord_law.specs.Step.{Meets};
-ghost use Rattle.id_ord_map.specs.Answers.{inserted, overwritten};
+ghost use Rattle.id_ord_law.specs.Parts.{walk};
+ghost use Rattle.id_ord_law.specs.Standing.{Answer.done as done, Call.insert_unique as InsertUnique, Call.insert_overwrite as InsertOverwrite, Call.occupied_insert as OccupiedInsert, stands};
+ghost use Rattle.id_ord_law.specs.Step.{Meets, adding};
+ghost use Rattle.id_ord_map.specs.Answers.{added, inserted, overwritten, replaced};
 ghost use Rattle.id_ord_map.specs.View.{view, SameMemory};
 
+use crate::looking::same_key;
 use crate::map::IdOrdMap;
-use id_ord_errors::{DuplicateItem, InsertRefusal, MapFull};
+use id_ord_errors::{DuplicateItem, InsertRefusal, KeyChanged, MapFull, ReplaceRefusal};
 use id_ord_item::IdOrdItem;
 
 impl<'a, T: IdOrdItem> IdOrdMap<'a, T> {
@@ -20,12 +22,7 @@ impl<'a, T: IdOrdItem> IdOrdMap<'a, T> {
         if let Some(slot) = self.find_index(&item) {
             return Err(InsertRefusal::Duplicate(DuplicateItem { item, slot }));
         }
-        if self.is_full() {
-            return Err(InsertRefusal::Full(MapFull { item }));
-        }
-        let place = self.find_place(&item);
-        self.add_at(place, item);
-        Ok(())
+        self.add_new(item).map_err(InsertRefusal::Full)
     }
 
     /// Puts an item in the place of the one with its key, and answers that; where the key does not stand, adds it and answers none.
@@ -37,11 +34,35 @@ impl<'a, T: IdOrdItem> IdOrdMap<'a, T> {
         if let Some(index) = self.find_index(&item) {
             return Ok(Some(self.replace_in(index, item)));
         }
+        self.add_new(item)?;
+        Ok(None)
+    }
+
+    /// Adds an item whose key does not stand, if there is room for it.
+    fn add_new(&mut self, item: T) -> Result<(), MapFull<T>>
+        requires absent { stands T.IdOrdItem.order item (walk (view self.old)) ≡ false }
+        ensures does { (added result ≡ (adding T.IdOrdItem.order item done (view self.old)).0) × (view self.new ≡ (adding T.IdOrdItem.order item done (view self.old)).1) }
+        ensures memory { SameMemory self.old self.new }
+    {
         if self.is_full() {
             return Err(MapFull { item });
         }
         let place = self.find_place(&item);
         self.add_at(place, item);
-        Ok(None)
+        Ok(())
+    }
+
+    /// Puts an item in the place of the one with its key, if it has the key of the item that was taken, and answers the old one.
+    pub(crate) fn replace_taken(&mut self, taken: &T, item: T) -> Result<T, ReplaceRefusal<T>>
+        ensures does { Meets T.IdOrdItem.order (OccupiedInsert taken.now item) (view self.old) (replaced result) (view self.new) }
+        ensures memory { SameMemory self.old self.new }
+    {
+        if !same_key(taken, &item) {
+            return Err(ReplaceRefusal::KeyChanged(KeyChanged { item }));
+        }
+        let Some(index) = self.find_index(&item) else {
+            return Err(ReplaceRefusal::Stale { item });
+        };
+        Ok(self.replace_in(index, item))
     }
 }

@@ -10,13 +10,12 @@ use crate::map::{CAPACITY_LIMIT, IdOrdMap};
 use id_ord_item::{Comparable, IdOrdItem};
 use index_table::Index;
 use item_set::{ItemIndex, ItemSlot};
-use std::cmp::Ordering;
 
 /// Whether two items have one key.
 pub(crate) fn same_key<T: IdOrdItem>(left: &T, right: &T) -> bool
     ensures { result ≡ is_eq (T.IdOrdItem.order left.now right.now) }
 {
-    left.compare(right) == Ordering::Equal
+    left.compare(right).is_eq()
 }
 
 impl<'a, T: IdOrdItem> IdOrdMap<'a, T> {

@@ -6,9 +6,8 @@ ghost use Rattle.id_ord_law.specs.Step.{Meets};
 ghost use Rattle.id_ord_map.specs.Answers.{fresh, put_back};
 ghost use Rattle.id_ord_map.specs.View.{view, SameMemory};
 
-use crate::looking::same_key;
 use crate::map::IdOrdMap;
-use id_ord_errors::{KeyChanged, ReplaceRefusal};
+use id_ord_errors::ReplaceRefusal;
 use id_ord_item::IdOrdItem;
 
 /// An item that was taken from a map, and the same item as changed. It borrows no map.
@@ -59,13 +58,7 @@ impl<T: IdOrdItem> RefMut<T> {
         ensures memory { SameMemory map.old map.new }
     {
         let RefMut { taken, changed } = self;
-        if !same_key(&taken, &changed) {
-            return Err(ReplaceRefusal::KeyChanged(KeyChanged { item: changed }));
-        }
-        let Some(index) = map.find_index(&changed) else {
-            return Err(ReplaceRefusal::Stale { item: changed });
-        };
-        let _ = map.replace_in(index, changed);
+        let _ = map.replace_taken(&taken, changed)?;
         Ok(())
     }
 }

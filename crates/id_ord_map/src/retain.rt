@@ -33,15 +33,12 @@ impl<'a, T: IdOrdItem> IdOrdMap<'a, T> {
             return Err(KeyChanged { item: changed });
         }
         match verdict {
-            Verdict::Keep => {
-                self.replace_at(place, changed);
-                Ok(Verdict::Keep)
-            }
+            Verdict::Keep => self.replace_at(place, changed),
             Verdict::Remove => {
                 let _ = self.take_out(place);
-                Ok(Verdict::Remove)
             }
         }
+        Ok(verdict)
     }
 
     /// Shows each item to a rule, in key order: one that the rule keeps stands as the rule changed it, another goes.
