@@ -1,7 +1,6 @@
 // Short ways to write stays and faults, and the memory and numbers of a map, in a test.
-// The crates of tests share none, so that each shows its own kinds of items, and no test leans on another's words.
-ghost use Rattle.id_ord_map.specs.View.{view, SameMemory};
-ghost use Rattle.panel_items.specs.Stay.{by_berth_then_from};
+// The crates of tests have no helpers in common, so that each can be read by itself.
+ghost use Rattle.id_ord_map.specs.View.{SameMemory};
 
 use id_ord_errors::{Layer, ValidationError};
 use id_ord_map::IdOrdMap;
@@ -115,6 +114,7 @@ pub fn scratch<const N: usize>(numbers: [u32; N]) -> [ItemIndex; N] {
     places
 }
 
+// A plain triple, since the number, the layer and the place are what is tested.
 /// What a fault tells: its number, its layer and its place.
 pub fn told(answer: Result<(), ValidationError>) -> Result<(), (u8, Layer, usize)> {
     answer.map_err(|fault| (fault.number(), fault.layer(), fault.place()))

@@ -6,8 +6,8 @@ use std::test::*;
 
 const PLACES: usize = 8;
 
+// As in the other long runs: the crates of tests have no helpers in common, so that each can be read by itself.
 /// The next of a row of numbers that look like chance.
-// as in the other long runs, since the crates of tests share none
 fn following(x: u32) -> u32 {
     x.wrapping_mul(1664525).wrapping_add(1013904223)
 }

@@ -1,5 +1,5 @@
 // Short ways to write stays, slots, entries and a scratch in a test.
-// The crates of tests share none, so that each shows its own kinds of items, and no test leans on another's words.
+// The crates of tests have no helpers in common, so that each can be read by itself.
 use index_table::Index;
 use item_set::{ItemIndex, ItemSlot};
 use panel_items::Stay;

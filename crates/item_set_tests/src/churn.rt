@@ -10,12 +10,12 @@ const SLOTS: usize = 12;
 struct Churned {
     numbers: ItemSet,
     slots: [ItemSlot<u32>; SLOTS],
-    // what each slot should hold, by the slot's number
+    // what each slot should hold: an array, since a slot's number is its place there
     model: [Option<u32>; SLOTS],
 }
 
+// As in the other long runs: the crates of tests have no helpers in common, so that each can be read by itself.
 /// The next of a row of numbers that look like chance.
-// as in the other long runs, since the crates of tests share none
 fn following(x: u32) -> u32 {
     x.wrapping_mul(1664525).wrapping_add(1013904223)
 }

@@ -4,7 +4,7 @@ use item_set::{ItemIndex, ItemSlot};
 use panel_items::{Stay, StayAt};
 use std::{fmt, iter};
 
-// Their types are other crates', which leave the words to a program.
+// The types that it shows are other crates', and the words in which they are shown are this program's.
 /// A slot number, a key, a stay or a slot as it is printed.
 #[derive(Clone, Copy)]
 pub struct Shown<T>(pub T);
