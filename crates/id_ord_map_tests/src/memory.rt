@@ -7,6 +7,7 @@ use id_ord_map::IdOrdMap;
 use index_table::Index;
 use item_set::{ItemIndex, ItemSet, ItemSlot};
 use panel_items::{Sailing, Stay, StayAt};
+use std::array;
 use std::test::Fail;
 
 /// The number that names no slot.
@@ -96,6 +97,7 @@ pub fn vacant<T>(next: u32) -> ItemSlot<T> {
     }
 }
 
+// Filled in a loop, since an array's `try_map` and `try_from_fn` ask for a bound on N.
 /// The entries that name some slots.
 pub fn entries<const N: usize>(slots: [u32; N]) -> Result<[Index; N], Fail> {
     let mut made = [Index::new(ItemIndex::new(0))?; N];
@@ -107,11 +109,7 @@ pub fn entries<const N: usize>(slots: [u32; N]) -> Result<[Index; N], Fail> {
 
 /// A scratch of such numbers.
 pub fn scratch<const N: usize>(numbers: [u32; N]) -> [ItemIndex; N] {
-    let mut places = [ItemIndex::SENTINEL; N];
-    for (place, number) in places.iter_mut().zip(&numbers) {
-        *place = ItemIndex::new(*number);
-    }
-    places
+    array::from_fn(|at| ItemIndex::new(numbers[at]))
 }
 
 // A plain triple, since the number, the layer and the place are what is tested.
