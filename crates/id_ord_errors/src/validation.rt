@@ -46,10 +46,9 @@ impl ValidationError {
         ensures { result ≡ layer_of self }
     {
         match self {
-            ValidationError::Size { .. } => Layer::Map,
+            ValidationError::Size { .. } | ValidationError::Order { .. } => Layer::Map,
             ValidationError::Items(_) => Layer::Items,
             ValidationError::Table(_) => Layer::Table,
-            ValidationError::Order { .. } => Layer::Map,
         }
     }
 

@@ -6,6 +6,7 @@ ghost use Rattle.id_ord_item.specs.Same.{Faithful};
 
 use std::cmp::Ordering;
 
+// `compare` and `same`, and not `Ord` and `Eq`: items of one key may differ in other fields, and what both mean stands in ghost members with laws.
 /// An item that is stored under its own key.
 ///
 /// `order` is the order of items by key, `equal` says of two items whether they agree in every field.

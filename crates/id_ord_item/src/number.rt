@@ -4,7 +4,7 @@ ghost use Rattle.std.specs.Ordering.{nat_cmp};
 
 use std::cmp::Ordering;
 
-// The name by which keys are told: it is the numbers' own `cmp`.
+// A public call for kinds whose keys are numbers of any width up to 64 bits.
 /// How two numbers compare. A key of several parts joins such answers by `Ordering::then`.
 pub fn compare_numbers(a: u64, b: u64) -> Ordering
     ensures { result ≡ nat_cmp a b }

@@ -22,6 +22,7 @@ fn c() -> ItemSlot<Stay> {
     held(4, 540)
 }
 
+// A fault is given by its number, its layer and its place, which are what is tested.
 /// Told `used`, `len`, free head and table count, `adopt` answers so and writes nothing.
 fn answers<const N: usize>(
     rt: &impl Abort,

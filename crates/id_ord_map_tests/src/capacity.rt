@@ -1,7 +1,4 @@
 // The capacity of a map: the least of its slots, its table entries and 4,096.
-ghost use Rattle.id_ord_map.specs.View.{view};
-ghost use Rattle.panel_items.specs.Sailing.{by_code};
-
 use crate::memory::{S, entries, sailing, stay, vacant};
 use id_ord_errors::{InsertRefusal, MapFull};
 use id_ord_map::IdOrdMap;

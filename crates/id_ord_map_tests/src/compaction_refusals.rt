@@ -1,4 +1,5 @@
 // The refusals that concern slot numbers and vacant slots, 5 to 8 and 20, and LONG, 9.
+// Each is given by its number, since the numbers are what a caller goes by.
 use crate::memory::{Memory, S, at, held, insert_three, scratch, told, vacant};
 use id_ord_errors::Layer;
 use id_ord_map::IdOrdMap;

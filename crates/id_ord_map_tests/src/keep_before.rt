@@ -14,7 +14,7 @@ pub struct KeepBefore {
     pub moved: u32,
     pub moved_to: u32,
     pub to: u32,
-    // three numbers, so that a definition gives them one by one
+    // a tuple and no array, since a definition can name each of its three numbers
     pub shown: (u32, u32, u32),
 }
 

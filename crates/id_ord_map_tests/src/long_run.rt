@@ -1,7 +1,4 @@
 // A long mixed run of calls, held at every step to the standard library's map of the stays that should stand.
-ghost use Rattle.id_ord_map.specs.View.{view};
-ghost use Rattle.panel_items.specs.Stay.{by_berth_then_from};
-
 use crate::memory::{S, at, entries, of_vessel, scratch, vacant};
 use id_ord_item::KeepFirst;
 use id_ord_map::IdOrdMap;
@@ -16,8 +13,8 @@ const KEYS: u32 = 8;
 /// How many stays the map can hold.
 const CAPACITY: usize = 6;
 
+// As in the other long runs: the crates of tests have no helpers in common, so that each can be read by itself.
 /// The next of a row of numbers that look like chance.
-// as in the other long runs, since the crates of tests share none
 fn following(x: u32) -> u32 {
     x.wrapping_mul(1664525).wrapping_add(1013904223)
 }

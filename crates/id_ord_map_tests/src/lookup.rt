@@ -1,7 +1,4 @@
 // Entries in a test: one for a key that stands, and one for a key that does not.
-ghost use Rattle.id_ord_map.specs.View.{view};
-ghost use Rattle.panel_items.specs.Stay.{by_berth_then_from};
-
 use crate::memory::at;
 use id_ord_map::{Entry, IdOrdMap, OccupiedEntry, RefMut, VacantEntry};
 use panel_items::Stay;

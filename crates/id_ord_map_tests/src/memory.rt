@@ -1,13 +1,13 @@
 // Short ways to write stays and faults, and the memory and numbers of a map, in a test.
-// The crates of tests share none, so that each shows its own kinds of items, and no test leans on another's words.
-ghost use Rattle.id_ord_map.specs.View.{view, SameMemory};
-ghost use Rattle.panel_items.specs.Stay.{by_berth_then_from};
+// The crates of tests have no helpers in common, so that each can be read by itself.
+ghost use Rattle.id_ord_map.specs.View.{SameMemory};
 
 use id_ord_errors::{Layer, ValidationError};
 use id_ord_map::IdOrdMap;
 use index_table::Index;
 use item_set::{ItemIndex, ItemSet, ItemSlot};
 use panel_items::{Sailing, Stay, StayAt};
+use std::array;
 use std::test::Fail;
 
 /// The number that names no slot.
@@ -97,6 +97,7 @@ pub fn vacant<T>(next: u32) -> ItemSlot<T> {
     }
 }
 
+// Filled in a loop, since an array's `try_map` and `try_from_fn` ask for a bound on N.
 /// The entries that name some slots.
 pub fn entries<const N: usize>(slots: [u32; N]) -> Result<[Index; N], Fail> {
     let mut made = [Index::new(ItemIndex::new(0))?; N];
@@ -108,13 +109,10 @@ pub fn entries<const N: usize>(slots: [u32; N]) -> Result<[Index; N], Fail> {
 
 /// A scratch of such numbers.
 pub fn scratch<const N: usize>(numbers: [u32; N]) -> [ItemIndex; N] {
-    let mut places = [ItemIndex::SENTINEL; N];
-    for (place, number) in places.iter_mut().zip(&numbers) {
-        *place = ItemIndex::new(*number);
-    }
-    places
+    array::from_fn(|at| ItemIndex::new(numbers[at]))
 }
 
+// A plain triple, since the number, the layer and the place are what is tested.
 /// What a fault tells: its number, its layer and its place.
 pub fn told(answer: Result<(), ValidationError>) -> Result<(), (u8, Layer, usize)> {
     answer.map_err(|fault| (fault.number(), fault.layer(), fault.place()))

@@ -1,7 +1,6 @@
 // The check of a table's entries.
 ghost use Rattle.std.specs.Prelude.{◌≡◌, true, length};
-ghost use Rattle.std.specs.declared.cmp.Ordering.{Ordering};
-ghost use Rattle.index_table.specs.Check.{first_place, followed, comes_after, named, repeats, nameless, table_fault, first_unordered};
+ghost use Rattle.index_table.specs.Check.{first_place, followed, comes_after, repeats, nameless, table_fault, first_unordered};
 ghost use Rattle.index_table.specs.Walk.{seen, Named, Ascending, walk};
 ghost use Rattle.item_set.specs.Slots.{held};
 ghost use Rattle.item_set.specs.Chain.{unless};

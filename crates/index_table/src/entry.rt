@@ -5,6 +5,7 @@ ghost use Rattle.index_table.specs.Shift.{renumbered};
 
 use item_set::{IndexRemap, ItemIndex};
 
+// `new` and `value` are the names that the Rust has for what `TryFrom` and `From` would do.
 /// A table entry: the number of a slot. It is never `SENTINEL`, since the one call that makes an entry refuses that.
 #[derive(Clone, Copy, PartialEq, Eq, Debug)]
 pub struct Index(ItemIndex);

@@ -32,8 +32,7 @@ impl TableFault {
     {
         match self {
             TableFault::TableLength { count } => count,
-            TableFault::Repeated { place } => place,
-            TableFault::NotHeld { place } => place,
+            TableFault::Repeated { place } | TableFault::NotHeld { place } => place,
         }
     }
 }

@@ -6,7 +6,7 @@ ghost use Rattle.index_table.specs.Search.{Falling, Sought};
 
 use std::cmp::Ordering;
 
-// A trait and no closure: the answer at each place is a ghost member, where a closure asks leave for each call.
+// A trait and no closure, whose contract would have to ask of each caller that it may be called at each place.
 /// Something that is looked for among numbered places.
 ///
 /// `answers` says of each place how what is looked for compares with what is there.
@@ -27,7 +27,7 @@ pub fn search<P: Probe>(probe: &P, len: usize) -> Result<usize, usize>
     ensures any { MatchResult result (λ p. (p < len) × (P.Probe.answers probe.now p ≡ Equal)) (λ p. p ≤ len) }
     ensures place { Falling (P.Probe.answers probe.now) len → Sought (P.Probe.answers probe.now) len result }
 {
-    // A slice's `binary_search_by` does not say which places it compares, and a probe is no slice.
+    // It is written over a probe, so that it knows neither slots nor keys; `binary_search_by` searches a slice.
     let mut low = 0;
     let mut high = len;
     while low < high {

@@ -1,5 +1,5 @@
 // The sorted table: slot numbers in the order of their items' keys.
-// The slots and the entries are slices that the map is lent, so each call is handed both.
+// It is a sorted array in lent memory. The slots and the entries are slices that the map is lent, so each call is handed both.
 
 #![tactic(auto)]
 

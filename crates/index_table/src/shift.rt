@@ -5,6 +5,7 @@ ghost use Rattle.index_table.specs.Shift.{opened, closed, rewritten};
 use crate::entry::Index;
 use item_set::{IndexRemap, ItemIndex};
 
+// The table and its `len` stand beside one another: the place after the last entry is written too, and the table is longer than what is in use.
 /// Puts an entry at a place of the first `len` entries; those from the place on go one up.
 ///
 /// Nothing is written where the place is past `len`, or the table has no room for one entry more.

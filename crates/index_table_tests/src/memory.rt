@@ -1,8 +1,9 @@
 // Short ways to write stays, slots, entries and a scratch in a test.
-// The crates of tests share none, so that each shows its own kinds of items, and no test leans on another's words.
+// The crates of tests have no helpers in common, so that each can be read by itself.
 use index_table::Index;
 use item_set::{ItemIndex, ItemSlot};
 use panel_items::Stay;
+use std::array;
 use std::test::*;
 
 /// The number that names no slot.
@@ -38,6 +39,7 @@ pub fn entry(slot: u32) -> Result<Index, Fail> {
     Ok(Index::new(ItemIndex::new(slot))?)
 }
 
+// Filled in a loop, since an array's `try_map` and `try_from_fn` ask for a bound on N.
 /// The entries that name some slots.
 pub fn entries<const N: usize>(slots: [u32; N]) -> Result<[Index; N], Fail> {
     let mut made = [entry(0)?; N];
@@ -49,10 +51,5 @@ pub fn entries<const N: usize>(slots: [u32; N]) -> Result<[Index; N], Fail> {
 
 /// A scratch of such numbers.
 pub fn scratch<const N: usize>(numbers: [u32; N]) -> [ItemIndex; N] {
-    // an array's `map` asks for a bound on N
-    let mut places = [ItemIndex::SENTINEL; N];
-    for (place, number) in places.iter_mut().zip(&numbers) {
-        *place = ItemIndex::new(*number);
-    }
-    places
+    array::from_fn(|at| ItemIndex::new(numbers[at]))
 }

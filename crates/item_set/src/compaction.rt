@@ -1,5 +1,5 @@
 // Moving the items of a store together, so that no slot in use is vacant.
-ghost use Rattle.std.specs.Prelude.{◌≡◌, ◌-◌, ◌^◌, ◌<◌, ◌≤◌, ◌++◌, length, take, drop, replicate};
+ghost use Rattle.std.specs.Prelude.{◌≡◌, ◌-◌, ◌^◌, ◌<◌, ◌≤◌, ◌++◌, length, drop, replicate};
 ghost use Rattle.item_set.specs.Slots.{occupied, sentinel};
 ghost use Rattle.item_set.specs.Compact.{new_numbers, packed, compact_answer, compacted_slots, compacted_scratch, compacted};
 ghost use Rattle.item_set.specs.Refusal.{compact_number};
@@ -37,7 +37,7 @@ fn pack<T: Copy>(slots: &mut [ItemSlot<T>], scratch: &mut [ItemIndex]) -> u32
     ensures slots { slots.new ≡ packed slots.old ++ replicate (length slots.old - occupied slots.old) (ItemSlot.Vacant sentinel) }
     ensures scratch { scratch.new ≡ new_numbers 0 slots.old ++ drop (length slots.old) scratch.old }
 {
-    // an item moves within the slice that is read, so no iterator over it can stand here
+    // an item moves within the slice that is read, to the place that `count` says, so no iterator over it can stand here
     let mut count: u32 = 0;
     for at in 0..slots.len() {
         let slot = slots[at];

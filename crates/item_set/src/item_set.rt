@@ -6,6 +6,7 @@ ghost use Rattle.item_set.specs.Store.{in_use, grown, next_index, inserted, inse
 use crate::index::ItemIndex;
 use crate::slot::{ItemSlot, item_at, next_at, put};
 
+// The methods take the slots, since the map holds the lent slices and hands them on.
 /// The numbers of a slot store: a plain record, whose methods take the slots that they work on.
 ///
 /// Only the first `used` slots are in use. Of them `len` hold an item; the others are free, and

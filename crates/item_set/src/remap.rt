@@ -5,6 +5,7 @@ ghost use Rattle.item_set.specs.Refusal.{remap_number};
 
 use crate::index::ItemIndex;
 
+// An enum of the Rust, whose cases have names that say more than those of `Option`.
 /// What a compaction did to the slot numbers.
 #[derive(Clone, Copy, PartialEq, Eq, Debug)]
 pub enum IndexRemap {

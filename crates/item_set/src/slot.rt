@@ -4,6 +4,8 @@ ghost use Rattle.item_set.specs.Slots.{at, held, vacant_next};
 
 use crate::index::ItemIndex;
 
+// An enum of the Rust, whose cases have names that say more than those of `Result`.
+// Slots are named by number, and the free ones form a chain through lent memory, with no heap.
 /// A slot: it holds an item, or it is free and names the next free slot, `SENTINEL` if there is none.
 #[derive(Clone, Copy, PartialEq, Eq, Debug)]
 pub enum ItemSlot<T> {
@@ -21,6 +23,7 @@ pub fn item_at<T: Copy>(slots: &[ItemSlot<T>], index: ItemIndex) -> Option<T>
     }
 }
 
+// It looks like `item_at`, but each reads the case that the other passes over.
 /// The free slot that a vacant slot of the given slots names: none where there is no such slot, or it holds an item.
 pub(crate) fn next_at<T: Copy>(slots: &[ItemSlot<T>], index: ItemIndex) -> Option<ItemIndex>
     ensures { result ≡ vacant_next slots.now index.0 }

@@ -1,5 +1,5 @@
 // The check of a store's parts.
-ghost use Rattle.std.specs.Prelude.{◌≡◌, ◌+◌, ◌^◌, ◌<◌, ◌≤◌, length, Ok, Some, Option, MatchResult};
+ghost use Rattle.std.specs.Prelude.{◌≡◌, ◌^◌, ◌<◌, length, Ok, Some, Option, MatchResult};
 ghost use Rattle.item_set.specs.Slots.{occupied};
 ghost use Rattle.item_set.specs.Chain.{SoundSet, reached, follow, first_fault, unless};
 ghost use Rattle.item_set.specs.Compact.{compact_fault};

@@ -10,12 +10,12 @@ const SLOTS: usize = 12;
 struct Churned {
     numbers: ItemSet,
     slots: [ItemSlot<u32>; SLOTS],
-    // what each slot should hold, by the slot's number
+    // what each slot should hold: an array, since a slot's number is its place there
     model: [Option<u32>; SLOTS],
 }
 
+// As in the other long runs: the crates of tests have no helpers in common, so that each can be read by itself.
 /// The next of a row of numbers that look like chance.
-// as in the other long runs, since the crates of tests share none
 fn following(x: u32) -> u32 {
     x.wrapping_mul(1664525).wrapping_add(1013904223)
 }
@@ -41,18 +41,18 @@ impl Churned {
     }
 
     fn insert_one(&mut self, rt: &impl Abort, item: u32) -> Result<(), Fail> {
-        let full = self.numbers.len == 12;
+        let full = self.numbers.len as usize == SLOTS;
         match self.numbers.insert(&mut self.slots, item) {
             Ok(index) => {
                 let at = index.as_u32() as usize;
                 assert!(rt; at < SLOTS);
                 assert_eq!(rt; self.model[at], None);
                 self.model[at] = Some(item);
-                assert_eq!(rt; full, false);
+                assert!(rt; !full);
             }
             Err(refused) => {
                 assert_eq!(rt; refused.item, item);
-                assert_eq!(rt; full, true);
+                assert!(rt; full);
             }
         }
         Ok(())
@@ -78,7 +78,7 @@ fn a_long_run_keeps_every_item_in_its_slot(rt: HostRuntime) -> Result<(), Fail> 
         if x >> 24 < 150 {
             churned.insert_one(&rt, x)?;
         } else {
-            churned.remove_one(&rt, (x >> 8) % 12)?;
+            churned.remove_one(&rt, (x >> 8) % SLOTS as u32)?;
         }
         churned.check_slots(&rt)?;
     }

@@ -1,5 +1,5 @@
 // Short ways to write a store in a test: its numbers, its slots and a scratch.
-// The crates of tests share none, so that each shows its own kinds of items, and no test leans on another's words.
+// The crates of tests have no helpers in common, so that each can be read by itself.
 use item_set::{ItemIndex, ItemSet, ItemSlot};
 
 /// The number that names no slot.

@@ -1,6 +1,4 @@
 // A board: a map of one kind of item, with what the panel remembers of it from line to line.
-ghost use Rattle.id_ord_map.specs.View.{view};
-
 use crate::handling::Hand;
 use crate::memory::Memory;
 use id_ord_item::IdOrdItem;

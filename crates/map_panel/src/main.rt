@@ -24,7 +24,7 @@ use crate::board::Board;
 use crate::help::HELP;
 use crate::memory::Memory;
 use crate::panel::Panel;
-use anyhow::anyhow;
+use anyhow::bail;
 use std::env;
 
 /// How many stays there is room for.
@@ -45,18 +45,14 @@ fn day(rt: &HostRuntime) -> anyhow::Result<()> {
 }
 
 fn run(rt: &HostRuntime) -> anyhow::Result<()> {
-    let mut args = env::args(rt)?;
-    let _ = args.next();
-    match args.next() {
+    match env::args(rt)?.nth(1) {
         None => day(rt),
-        Some(word) => {
-            if word.as_str() == "--help" {
-                println!(rt; "{HELP}")?;
-                println!(rt; "\nThere is room for {STAYS} stays and {SAILINGS} sailings.")?;
-                return Ok(());
-            }
-            Err(anyhow!("it takes no argument but --help"))
+        Some(word) if word.as_str() == "--help" => {
+            println!(rt; "{HELP}")?;
+            println!(rt; "\nThere is room for {STAYS} stays and {SAILINGS} sailings.")?;
+            Ok(())
         }
+        Some(_) => bail!("it takes no argument but --help"),
     }
 }
 

@@ -4,6 +4,7 @@ use index_table::Index;
 use item_set::{ItemIndex, ItemSlot};
 use std::alloc::{AllocError, Global};
 
+// Three Vecs, made once: the map and its board are lent them as slices.
 /// The memory that a board is lent: slots and a table for its map, and scratch for shrinking it.
 #[derive(Drop)]
 pub struct Memory<T> {

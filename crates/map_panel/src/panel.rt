@@ -1,8 +1,4 @@
 // The panel: its two boards, and the commands that it carries out on them, line by line.
-ghost use Rattle.id_ord_map.specs.View.{view};
-ghost use Rattle.panel_items.specs.Sailing.{by_code};
-ghost use Rattle.panel_items.specs.Stay.{by_berth_then_from};
-
 use crate::board::Board;
 use crate::command::Command;
 use crate::reading::read_line;

@@ -29,6 +29,7 @@ pub enum Refusal<T> {
 }
 
 impl<T> Refusal<T> {
+    // one row of numbers goes through all kinds of refusal, and callers go by it
     /// The number of the refusal; the hand's own have none.
     fn number(&self) -> Option<u8> {
         match self {

@@ -1,6 +1,4 @@
 // Carrying out what is asked of a board, and printing what was done.
-ghost use Rattle.id_ord_map.specs.View.{view};
-
 use crate::board::Board;
 use crate::changing::make_change;
 use crate::command::Order;

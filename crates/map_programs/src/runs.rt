@@ -1,7 +1,7 @@
 // Runs of calls, for every kind of item: what a caller knows of its map after several calls.
 ghost use Rattle.std.specs.Prelude.{◌≡◌, [], length};
-ghost use Rattle.id_ord_law.specs.Law.{ran, stood, Walks};
-ghost use Rattle.id_ord_law.specs.Parts.{walk, capacity};
+ghost use Rattle.id_ord_law.specs.Law.{ran};
+ghost use Rattle.id_ord_law.specs.Parts.{walk};
 ghost use Rattle.id_ord_law.specs.Standing.{found, told};
 ghost use Rattle.id_ord_map.specs.View.{view};
 ghost use Rattle.map_programs.specs.Runs.{looks_up, shrinks_and_clears, adds, adds_by_entry, works_by_entry, puts_back_and_keeps, takes_out, every_call};

@@ -31,25 +31,16 @@ There is room for 24 stays.
     panel < FILE                reads a file
     panel --help                prints this";
 
-/// Makes the change of a line, and tells what became of it.
-fn make(rt: &HostRuntime, at: usize, berths: &mut Berths, change: Change) -> io::Result<()> {
+/// Makes a change, and tells what became of it.
+fn make(rt: &HostRuntime, berths: &mut Berths, change: Change) -> io::Result<()> {
     match change {
         Change::Add(stay) => match berths.add_stay(stay) {
-            Ok(slot) => {
-                let (slot, stay) = (Shown(slot), Shown(stay));
-                println!(rt; "line {at}: slot {slot} taken by {stay}")
-            }
-            Err(refusal) => println!(rt; "line {at}: refused, {refusal}"),
+            Ok(slot) => println!(rt; "slot {} taken by {}", Shown(slot), Shown(stay)),
+            Err(refusal) => println!(rt; "refused, {refusal}"),
         },
         Change::Drop(key) => match berths.drop_stay(key) {
-            Some((slot, stay)) => {
-                let (slot, stay) = (Shown(slot), Shown(stay));
-                println!(rt; "line {at}: slot {slot} freed by {stay}")
-            }
-            None => {
-                let key = Shown(key);
-                println!(rt; "line {at}: nothing to drop: no stay at {key}")
-            }
+            Some((slot, stay)) => println!(rt; "slot {} freed by {}", Shown(slot), Shown(stay)),
+            None => println!(rt; "nothing to drop: no stay at {}", Shown(key)),
         },
     }
 }
@@ -60,14 +51,14 @@ fn day(rt: &HostRuntime) -> anyhow::Result<()> {
         next: ItemIndex::SENTINEL,
     }; PLACES];
     let mut berths = Berths::new(&mut slots);
-    for (n, line) in BufReader::new(heap, rt.stdin())?
-        .split(heap, b'\n')
-        .enumerate()
-    {
-        let at = n + 1;
+    let lines = BufReader::new(heap, rt.stdin())?.split(heap, b'\n');
+    for (at, line) in (1..=u64::MAX).zip(lines) {
         match read_line(line?.as_slice()) {
             Ok(None) => {}
-            Ok(Some(change)) => make(rt, at, &mut berths, change)?,
+            Ok(Some(change)) => {
+                print!(rt; "line {at}: ")?;
+                make(rt, &mut berths, change)?;
+            }
             Err(fault) => println!(rt; "line {at}: not a change: {fault}")?,
         }
     }

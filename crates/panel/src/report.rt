@@ -4,15 +4,14 @@ use item_set::{ItemIndex, ItemSlot};
 use panel_items::{Stay, StayAt};
 use std::{fmt, iter};
 
-// Their types are other crates', which leave the words to a program.
+// The types that it shows are other crates', and the words in which they are shown are this program's.
 /// A slot number, a key, a stay or a slot as it is printed.
 #[derive(Clone, Copy)]
 pub struct Shown<T>(pub T);
 
 impl fmt::Display for Shown<ItemIndex> {
     fn fmt<W: fmt::Write>(&self, f: &mut fmt::Formatter<W>) -> fmt::Result {
-        let number = self.0.as_u32();
-        write!(f, "{number}")
+        write!(f, "{}", self.0.as_u32())
     }
 }
 
@@ -25,24 +24,18 @@ impl fmt::Display for Shown<StayAt> {
 
 impl fmt::Display for Shown<Stay> {
     fn fmt<W: fmt::Write>(&self, f: &mut fmt::Formatter<W>) -> fmt::Result {
-        let key = Shown(StayAt::from(&self.0));
+        let key = StayAt::from(&self.0);
         let Stay { to, vessel, .. } = self.0;
-        write!(f, "vessel {vessel}, {key} to {to}")
+        write!(f, "vessel {vessel}, {} to {to}", Shown(key))
     }
 }
 
 impl fmt::Display for Shown<ItemSlot<Stay>> {
     fn fmt<W: fmt::Write>(&self, f: &mut fmt::Formatter<W>) -> fmt::Result {
         match self.0 {
-            ItemSlot::Occupied(stay) => {
-                let stay = Shown(stay);
-                write!(f, "{stay}")
-            }
+            ItemSlot::Occupied(stay) => write!(f, "{}", Shown(stay)),
             ItemSlot::Vacant { next } if next.is_sentinel() => write!(f, "free, the last"),
-            ItemSlot::Vacant { next } => {
-                let next = Shown(next);
-                write!(f, "free, next {next}")
-            }
+            ItemSlot::Vacant { next } => write!(f, "free, next {}", Shown(next)),
         }
     }
 }
@@ -51,13 +44,11 @@ impl fmt::Display for AddRefusal {
     fn fmt<W: fmt::Write>(&self, f: &mut fmt::Formatter<W>) -> fmt::Result {
         match *self {
             AddRefusal::Duplicate { stay, slot } => {
-                let key = Shown(StayAt::from(&stay));
-                let slot = Shown(slot);
-                write!(f, "1 DUPLICATE: {key} is in slot {slot}")
+                let key = StayAt::from(&stay);
+                write!(f, "1 DUPLICATE: {} is in slot {}", Shown(key), Shown(slot))
             }
             AddRefusal::Full { stay } => {
-                let key = Shown(StayAt::from(&stay));
-                write!(f, "2 FULL: no slot for {key}")
+                write!(f, "2 FULL: no slot for {}", Shown(StayAt::from(&stay)))
             }
         }
     }
@@ -70,8 +61,7 @@ impl<'a> fmt::Display for Berths<'a> {
         let len = self.numbers.len;
         writeln!(f, "slots in use: {used}, with a stay: {len}")?;
         for (n, slot) in self.slots.iter().take(used as usize).enumerate() {
-            let slot = Shown(*slot);
-            writeln!(f, "  slot {n}: {slot}")?;
+            writeln!(f, "  slot {n}: {}", Shown(*slot))?;
         }
         write!(f, "free slots:")?;
         let next_free = |slot: &ItemIndex| match self.slots.get(slot.as_u32() as usize) {
@@ -83,8 +73,7 @@ impl<'a> fmt::Display for Berths<'a> {
             .take_while(|slot| !slot.is_sentinel())
             .take(used as usize)
         {
-            let slot = Shown(slot);
-            write!(f, " {slot}")?;
+            write!(f, " {}", Shown(slot))?;
         }
         Ok(())
     }

@@ -1,5 +1,5 @@
 // The letters of a sailing's code as typed, of which there are never more than eight.
-ghost use Rattle.std.specs.Prelude.{ℕ, ◌≤◌, length};
+ghost use Rattle.std.specs.Prelude.{◌≤◌, length};
 
 mod methods;
 mod query;

@@ -7,6 +7,7 @@ ghost use Rattle.panel_items.specs.CodeText.{letters_of, fill_answer, letters_af
 use super::{CodeText, CodeTextRefusal};
 
 impl<'a> CodeText<'a> {
+    // A text is made empty and then filled, so that a refusal leaves it as it was.
     /// A text with no letters, which means the code 0.
     pub fn new() -> CodeText<'a>
         ensures { letters_of result ≡ [] }
