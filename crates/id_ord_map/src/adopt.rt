@@ -60,7 +60,7 @@ impl<'a, T: IdOrdItem> IdOrdMap<'a, T> {
     ///
     /// They are refused with the first fault that its memory has under them, and the map is then as it was.
     /// No memory is written.
-    // the numbers come one by one, as they were kept: they are no store's before they are tested
+    // the four numbers come one by one, as the rules of adopting name and test them
     pub fn adopt(
         &mut self,
         used: u32,

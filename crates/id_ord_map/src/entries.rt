@@ -21,6 +21,7 @@ pub struct OccupiedEntry<T: IdOrdItem> {
     pub(crate) item: T,
 }
 
+// An enum of the Rust, whose cases have the calls that each allows.
 /// What was found where a key was looked for. It borrows no map: each of its calls is handed one.
 #[derive(Drop)]
 pub enum Entry<T: IdOrdItem> {
@@ -58,7 +59,7 @@ impl VacantEntry {
     }
 
     /// Adds an item, which may have any key, and answers an entry of it.
-    // the twin of `insert` but for what it answers, as in the Rust, whose names both keep
+    // apart from `insert` in what it answers alone: both keep their names in the Rust
     pub fn insert_entry<T: IdOrdItem>(
         self,
         map: &mut IdOrdMap<'_, T>,

@@ -8,6 +8,7 @@ use crate::map::IdOrdMap;
 use id_ord_item::IdOrdItem;
 
 impl<'a, T: IdOrdItem> IdOrdMap<'a, T> {
+    // `same`, and not `==`: it goes by what the kind of item says of its items
     /// Whether the walks of two maps have one length and their items agree in every field at every place.
     pub fn same(&self, other: &IdOrdMap<'_, T>) -> bool
         ensures yes { result ≡ true → SameWalk T.IdOrdItem.equal (walk (view self.now)) (walk (view other.now)) }

@@ -12,7 +12,7 @@ pub(crate) const CAPACITY_LIMIT: usize = 4096;
 ///
 /// The memory and the numbers are always sound: `adopt` would accept them.
 // What a call does, and that the map is lent the same memory after it, is of two maps and so stands in each contract.
-// The memory is lent and holds no pointer, so it is slots that are named by number, and an array that is sorted by hand.
+// The memory is lent, with no heap, so items are named by the number of their slot, and the table is an array that is kept sorted.
 #[derive(Drop)]
 pub struct IdOrdMap<'a, T: IdOrdItem> {
     pub(crate) slots: &'a mut [ItemSlot<T>],
