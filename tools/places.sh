@@ -20,7 +20,7 @@ search counters 'a count kept by hand' '(\+= 1;|saturating_add\(1\)|wrapping_add
 search by-hand 'equality, order, conversion and printing written out' '\bfn (same|compare|of|name|largest|compare_numbers|write_[a-z_]+|print_[a-z_]+|[a-z]+_name)\b'
 search sound 'clauses that say that a map is sound' '^ *(requires|ensures).*\{ Sound '
 search together 'numbers beside their slots, two boards side by side' '(numbers|items): &(mut )?ItemSet|(stays|sailings): &mut Board'
-search arrays 'fields of slices, arrays and Vecs' '^ *(pub(\(crate\))? )?[a-z_]+: (&.*\[|Vec<|\[).*,$|^type '
+search arrays 'fields and parameters of slices, arrays and Vecs' '^ *(pub(\(crate\))? )?[a-z_]+: (&.*\[|Vec<|\[).*,$|^type '
 search steps 'traits, and tests of a number for what to do' '^(pub )?trait |if way == |^ +match x '
 twins() { grep -rhoE --include=*.rt '\bfn [a-z_]+' crates/*/src | sort | uniq -c | awk '$1 > 1'; }
 answers() { find crates/*/proofs -name Answers.antt -exec cat {} + | grep -cE '^pub .* : goal\.'; }
