@@ -5,7 +5,6 @@ ghost use Rattle.panel_items_tests.specs.EveryKind.{Largest, unless_removed};
 
 use id_ord_item::{Comparable, IdOrdItem, KeepRule, Verdict};
 
-// A loop, since an iterator's `max_by` would give the last of several largest items, and this gives the first.
 /// An item with the largest key, or none of an empty row.
 pub fn largest<T: IdOrdItem>(items: &[T]) -> Option<T>
     ensures { Largest T.IdOrdItem.order items.now result }
