@@ -2,13 +2,14 @@
 ghost use Rattle.std.specs.Prelude.{◌≡◌};
 ghost use Rattle.item_set.specs.Chain.{unless};
 ghost use Rattle.id_ord_law.specs.Law.{RunLaw};
+ghost use Rattle.id_ord_law.specs.Reading.{ReadLaw};
 ghost use Rattle.id_ord_map.specs.Fault.{offered, entries_fault, map_fault, Accepts, adopted, Begun, compactness_fault};
 ghost use Rattle.id_ord_map.specs.View.{view, SameMemory};
 
 use crate::map::IdOrdMap;
 use id_ord_errors::ValidationError;
 use id_ord_item::IdOrdItem;
-use id_ord_law::runs_hold;
+use id_ord_law::{reads_hold, runs_hold};
 use index_table::Index;
 use item_set::{ItemIndex, ItemSet, ItemSlot, ValidateCompact};
 
@@ -73,9 +74,11 @@ impl<'a, T: IdOrdItem> IdOrdMap<'a, T> {
         ensures accepts { Accepts T.IdOrdItem.order (offered used len free_head (view self.old)) count result }
         ensures begins { Begun T.IdOrdItem.order (view self.new) result }
         ensures law { RunLaw T.IdOrdItem.order T.IdOrdItem.equal }
+        ensures reads { ReadLaw T.IdOrdItem.order }
         ensures memory { SameMemory self.old self.new }
     {
         runs_hold::<T>();
+        reads_hold::<T>();
         let items = ItemSet {
             used,
             len,

@@ -3,11 +3,12 @@ ghost use Rattle.std.specs.Prelude.{◌≡◌, []};
 ghost use Rattle.item_set.specs.Store.{cleared};
 ghost use Rattle.id_ord_law.specs.Law.{Begins, RunLaw};
 ghost use Rattle.id_ord_law.specs.Parts.{parts, capacity};
+ghost use Rattle.id_ord_law.specs.Reading.{ReadLaw};
 ghost use Rattle.id_ord_map.specs.View.{view};
 
 use crate::map::IdOrdMap;
 use id_ord_item::IdOrdItem;
-use id_ord_law::runs_hold;
+use id_ord_law::{reads_hold, runs_hold};
 use index_table::Index;
 use item_set::{ItemSet, ItemSlot};
 
@@ -17,9 +18,11 @@ impl<'a, T: IdOrdItem> IdOrdMap<'a, T> {
         ensures after { view result ≡ parts slots.old table.old cleared }
         ensures begins { Begins T.IdOrdItem.order (capacity (view result)) (view result) [] }
         ensures law { RunLaw T.IdOrdItem.order T.IdOrdItem.equal }
+        ensures reads { ReadLaw T.IdOrdItem.order }
         ensures memory { (result.slots.ghost_name ≡ slots.entry.ghost_name) × (result.table.ghost_name ≡ table.entry.ghost_name) }
     {
         runs_hold::<T>();
+        reads_hold::<T>();
         IdOrdMap {
             slots,
             table,

@@ -3,6 +3,7 @@ ghost use Rattle.std.specs.Prelude.{◌≡◌, ◌-◌};
 ghost use Rattle.std.specs.Option.{option_map};
 ghost use Rattle.std.specs.List.{slice_get};
 ghost use Rattle.id_ord_law.specs.Parts.{walk};
+ghost use Rattle.id_ord_law.specs.Reading.{HasKey, Least, Greatest};
 ghost use Rattle.id_ord_law.specs.Standing.{found};
 ghost use Rattle.id_ord_map.specs.Answers.{fresh};
 ghost use Rattle.id_ord_map.specs.View.{view};
@@ -21,7 +22,8 @@ impl<'a, T: IdOrdItem> IdOrdMap<'a, T> {
 
     /// A copy of the item with the key looked for, if it stands.
     pub fn get<Q: Comparable<T>>(&self, query: &Q) -> Option<T>
-        ensures { result ≡ found T.IdOrdItem.order (Q.Comparable.meant query.now) (walk (view self.now)) }
+        ensures answer { result ≡ found T.IdOrdItem.order (Q.Comparable.meant query.now) (walk (view self.now)) }
+        ensures key { HasKey T.IdOrdItem.order (Q.Comparable.meant query.now) (walk (view self.now)) result }
     {
         let index = self.find_index(query)?;
         self.items.get(self.slots, index)
@@ -39,14 +41,16 @@ impl<'a, T: IdOrdItem> IdOrdMap<'a, T> {
 
     /// A copy of the item with the least key, if there is one.
     pub fn first(&self) -> Option<T>
-        ensures { result ≡ slice_get (walk (view self.now)) 0 }
+        ensures answer { result ≡ slice_get (walk (view self.now)) 0 }
+        ensures least { Least T.IdOrdItem.order (walk (view self.now)) result }
     {
         self.iter(0)
     }
 
     /// A copy of the item with the greatest key, if there is one.
     pub fn last(&self) -> Option<T>
-        ensures { result ≡ slice_get (walk (view self.now)) (self.now.items.len - 1) }
+        ensures answer { result ≡ slice_get (walk (view self.now)) (self.now.items.len - 1) }
+        ensures greatest { Greatest T.IdOrdItem.order (walk (view self.now)) result }
     {
         self.iter((self.items.len as usize).saturating_sub(1))
     }

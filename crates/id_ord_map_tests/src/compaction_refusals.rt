@@ -1,6 +1,6 @@
 // The refusals that concern slot numbers and vacant slots, 5 to 8 and 20, and LONG, 9.
 // Each is given by its number, since the numbers are what a caller goes by.
-use crate::memory::{Memory, S, at, held, insert_three, scratch, told, vacant};
+use crate::memory::{Memory, S, at, entries, held, insert_three, scratch, told, vacant};
 use id_ord_errors::Layer;
 use id_ord_map::IdOrdMap;
 use index_table::Index;
@@ -48,6 +48,7 @@ fn old_slot_numbers_are_new_ones_gone_or_out_of_range(rt: HostRuntime) -> Result
         (0, 3, Ok(0)),
         (1, 3, Err(7)),
         (2, 3, Ok(1)),
+        (3, 3, Err(8)),
         (3, 4, Err(8)),
         (S, 4, Err(8)),
         (2, 2, Err(8)),
@@ -74,6 +75,20 @@ fn shrinking_leaves_the_items_together(rt: HostRuntime) -> Result<(), Fail> {
     memory.numbers = map.items();
     let slots = [held(4, 540), held(4, 530), vacant(S), vacant(S)];
     assert_eq!(rt; memory, Memory::new((2, 2, S), slots, [1, 0, 0, 9])?);
+    Ok(())
+}
+
+#[test]
+fn an_adopted_map_tells_its_vacant_slot(rt: HostRuntime) -> Result<(), Fail> {
+    let mut slots = [held(2, 600), vacant(S)];
+    let mut table = entries([0, 9])?;
+    let mut map = IdOrdMap::new(&mut slots, &mut table);
+    map.adopt(2, 1, ItemIndex::new(1), 1)?;
+    assert_eq!(rt;
+        told(map.validate(ValidateCompact::Compact)),
+        Err((20, Layer::Items, 1))
+    );
+    assert_eq!(rt; map.validate(ValidateCompact::NonCompact), Ok(()));
     Ok(())
 }
 
