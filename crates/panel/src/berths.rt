@@ -49,14 +49,9 @@ impl<'a> Berths<'a> {
     fn find_slot(&self, key: StayAt) -> Option<ItemIndex>
         ensures { Found key self.now result }
     {
-        // A loop: with `find` over the numbers it stays unproved that no slot passed over has the key.
-        for n in 0..self.numbers.used {
-            let slot = ItemIndex::new(n);
-            if self.stands(key, slot) {
-                return Some(slot);
-            }
-        }
-        None
+        (0..self.numbers.used)
+            .find(|&n| self.stands(key, ItemIndex::new(n)))
+            .map(ItemIndex::new)
     }
 
     /// Adds a stay, unless its key stands or no slot can take it, and answers its slot.
