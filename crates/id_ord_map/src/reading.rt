@@ -59,7 +59,6 @@ impl<'a, T: IdOrdItem> IdOrdMap<'a, T> {
     pub fn get_mut<Q: Comparable<T>>(&self, query: &Q) -> Option<RefMut<T>>
         ensures { result ≡ option_map fresh (found T.IdOrdItem.order (Q.Comparable.meant query.now) (walk (view self.now))) }
     {
-        let item = self.get(query)?;
-        Some(RefMut::new(item))
+        self.get(query).map(RefMut::new)
     }
 }

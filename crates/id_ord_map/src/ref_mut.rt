@@ -13,6 +13,7 @@ use id_ord_item::IdOrdItem;
 /// An item that was taken from a map, and the same item as changed. It borrows no map.
 ///
 /// Let go without `put_back`, it changes nothing.
+// That it is not changed yet holds of some only, so the calls that answer such a one say it.
 #[derive(Drop)]
 pub struct RefMut<T: IdOrdItem> {
     taken: T,

@@ -1,4 +1,5 @@
 // The single steps that the calls are made of: one item read, added, taken out or replaced at a place of the walk.
+// That a place is below `len`, or that a key does not stand, holds of some only, so each step that needs it asks for it.
 ghost use Rattle.std.specs.Prelude.{◌≡◌, ◌<◌, true, false, Some, ◌≢◌};
 ghost use Rattle.std.specs.Ordering.{is_eq};
 ghost use Rattle.std.specs.List.{slice_get};

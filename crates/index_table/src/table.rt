@@ -1,4 +1,5 @@
 // Reading the table: looking for a key, and the first and the last entry.
+// That the entries name items which ascend holds of some tables only, so each answer that rests on it says so.
 ghost use Rattle.std.specs.Prelude.{◌≡◌, ◌-◌, ◌<◌, ◌≤◌, length, IfSome, MatchResult};
 ghost use Rattle.std.specs.declared.cmp.Ordering.TheVariants.{Equal};
 ghost use Rattle.index_table.specs.Search.{answer_at, HasKey, Sought};

@@ -94,10 +94,10 @@ fn an_entry_that_names_no_item_is_out_of_no_order(rt: HostRuntime) -> Result<(),
 #[test]
 fn without_slots_no_entry_names_an_item(rt: HostRuntime) -> Result<(), Fail> {
     let none: [ItemSlot<Stay>; 0] = [];
-    assert_eq!(rt; ascends(&none, &[]), true);
+    assert!(rt; ascends(&none, &[]));
     assert_eq!(rt; first_unordered(&none, &[]), None);
     let table = entries([1, 0])?;
-    assert_eq!(rt; ascends(&none, &table), false);
+    assert!(rt; !ascends(&none, &table));
     assert_eq!(rt; first_unordered(&none, &table), None);
     Ok(())
 }

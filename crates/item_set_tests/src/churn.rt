@@ -1,4 +1,5 @@
 // A long run of inserts and removals, held to a plain array of what each slot should hold.
+use crate::store::{S, vacant};
 use item_set::{ItemIndex, ItemSet, ItemSlot};
 use std::process::Abort;
 use std::test::*;
@@ -24,9 +25,7 @@ impl Churned {
     fn new() -> Churned {
         Churned {
             numbers: ItemSet::new(),
-            slots: [ItemSlot::Vacant {
-                next: ItemIndex::SENTINEL,
-            }; SLOTS],
+            slots: [vacant(S); SLOTS],
             model: [None; SLOTS],
         }
     }

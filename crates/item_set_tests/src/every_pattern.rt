@@ -1,6 +1,7 @@
 // Tests of compaction over every pattern of occupied and vacant slots.
 ghost use Rattle.std.specs.Prelude.{◌<◌};
 
+use crate::store::{S, vacant};
 use item_set::{
     CompactRefusal, IndexRemap, ItemIndex, ItemSet, ItemSlot, RemapRefusal, ValidateCompact,
 };
@@ -15,10 +16,6 @@ struct Row {
     scratch: [ItemIndex; 6],
 }
 
-const VACANT: ItemSlot<u32> = ItemSlot::Vacant {
-    next: ItemIndex::SENTINEL,
-};
-
 /// Whether the slot is one of the pattern.
 fn contains(pattern: u32, slot: u32) -> bool
     requires { slot < 32 }
@@ -31,7 +28,7 @@ impl Row {
     fn full(rt: &impl Abort) -> Result<Row, Fail> {
         let mut row = Row {
             numbers: ItemSet::new(),
-            slots: [VACANT; 6],
+            slots: [vacant(S); 6],
             scratch: [ItemIndex::new(7); 6],
         };
         for at in 0..6 {
@@ -79,7 +76,7 @@ impl Row {
     /// Each slot past the items is vacant and names no other.
     fn end_vacant(&self, rt: &impl Abort) -> Result<(), Fail> {
         for slot in self.slots.iter().skip(self.numbers.len as usize) {
-            assert_eq!(rt; *slot, VACANT);
+            assert_eq!(rt; *slot, vacant(S));
         }
         Ok(())
     }

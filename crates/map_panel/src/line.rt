@@ -1,5 +1,5 @@
 // Reading the words of a line: numbers, keys and items.
-// Words of the smaller panel stand again here; the two share no crate, which would be longer than what it saved.
+// The smaller panel reads its words alike; a crate of words for both would be longer than what it saved.
 use crate::mistake::{Field, Mistake};
 use panel_items::{CodeText, CodeTextRefusal, Sailing, Stay, StayAt};
 use std::fmt;

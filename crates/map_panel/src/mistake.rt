@@ -1,4 +1,5 @@
 // Mistakes in a line: what is missing, wrong or too many.
+// The smaller panel names its fields alike; a crate of words for both would be longer than what it saved.
 use std::fmt;
 
 /// A field of a command.

@@ -1,5 +1,5 @@
 // Reading a change from a line.
-// The larger panel reads its fields alike; the two share no crate, which would be longer than what it saved.
+// The larger panel reads its fields alike; a crate of words for both would be longer than what it saved.
 use panel_items::{Stay, StayAt};
 use std::fmt;
 use std::str::{FromStr, SplitWhitespace, from_utf8};

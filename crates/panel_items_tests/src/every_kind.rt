@@ -13,7 +13,6 @@ pub fn largest<T: IdOrdItem>(items: &[T]) -> Option<T>
         return None;
     };
     let mut best = *first;
-    // a `for`, since `max_by` answers the last of equal items, and a proof learns only that it is one of them
     for item in items {
         if IdOrdItem::compare(item, &best).is_gt() {
             best = *item;
