@@ -1,7 +1,10 @@
 -- Changes of a board's items as calls of its map.
 --     call_of meant change    the call that a change makes; meant is the item that a query means
 --     answered result         what the map answered, where this became of a change
-use Rattle.std.specs.Prelude.{Ok, Err, Result}
+--     gone_of changed         the item that stood before the change and is gone after it, if there is one
+--     told_of change old      what is told of a change, where this item is gone
+--     Tells change changed    what is told is of this very change
+use Rattle.std.specs.Prelude.{◌≡◌, Some, None, Ok, Err, Option, Result}
 use Rattle.id_ord_errors.specs.Refusal.{not_inserted}
 use Rattle.id_ord_errors.specs.declared.adding.InsertRefusal.{InsertRefusal}
 use Rattle.id_ord_law.specs.Standing.{Call}
@@ -29,3 +32,22 @@ module _ {T : Type 0} where
   answered (Ok (Dropped item)) = removed item
   answered (Ok Cleared) = done
   answered (Err refusal) = not_inserted refusal
+
+  abbrev pub gone_of : Changed T → Option T
+  gone_of (Added item) = None
+  gone_of (AddedAnew item) = None
+  gone_of (Overwritten old) = Some old
+  gone_of (Dropped item) = item
+  gone_of Cleared = None
+
+  abbrev pub told_of : {Q : Type 0} → Change T Q → Option T → Changed T
+  told_of (Add item) old = Added item
+  told_of (Overwrite item) None = AddedAnew item
+  told_of (Overwrite item) (Some old) = Overwritten old
+  told_of (Drop query) old = Dropped old
+  told_of PopFirst old = Dropped old
+  told_of PopLast old = Dropped old
+  told_of Clear old = Cleared
+
+  abbrev pub Tells : {Q : Type 0} → Change T Q → Changed T → Type 0
+  Tells change changed = changed ≡ told_of change (gone_of changed)

@@ -1,4 +1,5 @@
 -- What is seen of a board.
+--     checked fault              what is seen where the check finds this fault or none
 --     seen order meant look p    what a look at the parts p sees; meant is the item that a query means
 use Rattle.std.specs.Prelude.{◌-◌, Some, None, Ok, Err, Option, Result}
 use Rattle.std.specs.declared.cmp.Ordering.{Ordering}

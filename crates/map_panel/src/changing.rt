@@ -1,7 +1,8 @@
 // Changing the items of a board: adding, overwriting, dropping, popping and clearing.
+ghost use Rattle.std.specs.Prelude.{IfOk};
 ghost use Rattle.id_ord_law.specs.Step.{Meets};
 ghost use Rattle.id_ord_map.specs.View.{view};
-ghost use Rattle.map_panel.specs.Changing.{call_of, answered};
+ghost use Rattle.map_panel.specs.Changing.{call_of, answered, Tells};
 
 use id_ord_errors::InsertRefusal;
 use id_ord_item::{Comparable, IdOrdItem};
@@ -38,6 +39,7 @@ pub fn make_change<T: IdOrdItem, Q: Comparable<T> + Copy>(
     change: Change<T, Q>,
 ) -> Result<Changed<T>, InsertRefusal<T>>
     ensures does { Meets T.IdOrdItem.order (call_of Q.Comparable.meant change) (view map.old) (answered result) (view map.new) }
+    ensures tells { IfOk result (Tells change) }
 {
     Ok(match change {
         Change::Add(item) => {

@@ -4,6 +4,7 @@
 --     Stands key berths i              slot i is in use and holds a stay with the key
 --     Absent key berths                no slot in use does
 --     Found key berths r               r is a slot where the key stands, or it stands in none
+--     Unchanged berths berths'         the numbers and the slots are as they were
 --     SameMemory berths berths'        the two are lent the same slots
 --     Added stay berths r berths', Dropped key berths r berths'
 --                                      what is answered to a stay to add, or to a key to drop, and the berths after it
