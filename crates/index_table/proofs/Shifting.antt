@@ -14,9 +14,15 @@ module _ {X : Type 0} (t : List X) (len place : ℕ) where
   removed room inside = same_lists _ _ (search (rules, places)) (λ j d h. grind (arith, places))
 
 -- what the calls leave where they write
-module _ (t : List Index) (len place : ℕ) where
-  pub opened_is : (e : Index) → len < length t → place ≤ len → set (copy_within t place len (place + 1)) place e ≡ opened t len place e
-  opened_is e room inside = inserted t len place e room inside ∙ sym (cond-true _ _ _ (and_from _ _ (lt-ltb len (length t) room) (le-leb place len inside)))
+pub opened_is : (t : List Index) (len place : ℕ) (e : Index) → len < length t → place ≤ len → insert (take len t) place e ++ drop (len + 1) t ≡ opened t len place e
+opened_is t len place e room inside = sym (cond-true _ _ _ (and_from _ _ (lt-ltb len (length t) room) (le-leb place len inside)))
 
-  pub closed_is : len ≤ length t → place < len → copy_within t (place + 1) len place ≡ closed t len place
-  closed_is room inside = removed t len place room inside ∙ sym (cond-true _ _ _ (and_from _ _ (le-leb len (length t) room) (lt-ltb place len inside)))
+pub closed_is : (t : List Index) (len place : ℕ) → len ≤ length t → place < len → remove (take len t) place ++ drop (len - 1) t ≡ closed t len place
+closed_is t len place room inside = sym (cond-true _ _ _ (and_from _ _ (le-leb len (length t) room) (lt-ltb place len inside)))
+
+module _ (t : List Index) (len place : ℕ) where
+  pub opened_by_copy : (e : Index) → len < length t → place ≤ len → set (copy_within t place len (place + 1)) place e ≡ opened t len place e
+  opened_by_copy e room inside = inserted t len place e room inside ∙ opened_is t len place e room inside
+
+  pub closed_by_copy : len ≤ length t → place < len → copy_within t (place + 1) len place ≡ closed t len place
+  closed_by_copy room inside = removed t len place room inside ∙ closed_is t len place room inside

@@ -9,7 +9,7 @@ use item_set::{IndexRemap, ItemIndex};
 /// Puts an entry at a place of the first `len` entries; those from the place on go one up.
 ///
 /// Nothing is written where the place is past `len`, or the table has no room for one entry more.
-#[tactic(auto, using(crate::proofs::Shifting::opened_is))]
+#[tactic(auto, using(crate::proofs::Shifting::opened_by_copy))]
 pub fn open_place(table: &mut [Index], len: usize, place: usize, entry: Index)
     ensures { table.new ≡ opened table.old len place entry }
 {
@@ -23,7 +23,7 @@ pub fn open_place(table: &mut [Index], len: usize, place: usize, entry: Index)
 /// Takes a place out of the first `len` entries; those after it go one down, and the last place is not written.
 ///
 /// Nothing is written where the place is not below `len`, or the table has fewer entries than that.
-#[tactic(auto, using(crate::proofs::Shifting::closed_is))]
+#[tactic(auto, using(crate::proofs::Shifting::closed_by_copy))]
 pub fn close_place(table: &mut [Index], len: usize, place: usize)
     ensures { table.new ≡ closed table.old len place }
 {

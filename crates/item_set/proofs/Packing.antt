@@ -56,7 +56,7 @@ read_on {X} a b k d e =
     ap (λ (n : ℕ). get_or a n d) z ∙ sym (get_or-drop k a 0 d) ∙ ap (λ (l : List X). get_or l 0 d) e ∙ get_or-drop k b 0 d ∙ ap (λ (n : ℕ). get_or b n d) (sym z)
 
 -- slot k, read as `slot`, is the next to be numbered and moved
-module _ {T : Type 0} (old : List (ItemSlot T)) (k : ℕ) (slot v : ItemSlot T) (inside : k < length old) (read : slot ≡ get_or old k slot) (is : slot ≡ v) where
+module _ {T : Type 0} (old : List (ItemSlot T)) (k : ℕ) (slot : ItemSlot T) (inside : k < length old) (read : slot ≡ get_or old k slot) (v : ItemSlot T) (is : slot ≡ v) where
   further : take (k + 1) old ≡ take k old ++ v ∷ []
   further = take_more old k slot inside ∙ ap (λ (a : ItemSlot T). take k old ++ a ∷ []) (sym read ∙ is)
 

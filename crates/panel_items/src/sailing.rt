@@ -3,7 +3,7 @@ ghost use Rattle.panel_items.specs.Sailing.{by_code, same_sailing};
 ghost use Rattle.std.proofs.Common.{rules};
 ghost use Rattle.id_ord_item.proofs.Lexicographic.{lexicographic_lawful};
 
-use id_ord_item::IdOrdItem;
+use id_ord_item::{IdOrdItem, compare_numbers};
 use std::cmp::Ordering;
 
 /// A sailing that is due at a berth at a minute.
@@ -26,7 +26,7 @@ impl IdOrdItem for Sailing {
     ghost faithful = { Prim.search rules };
 
     fn compare(&self, other: &Sailing) -> Ordering {
-        self.code.cmp(&other.code)
+        compare_numbers(self.code, other.code)
     }
 
     fn same(&self, other: &Sailing) -> bool {

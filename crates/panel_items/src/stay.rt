@@ -3,8 +3,7 @@ ghost use Rattle.panel_items.specs.Stay.{by_berth_then_from, same_stay};
 ghost use Rattle.std.proofs.Common.{rules};
 ghost use Rattle.id_ord_item.proofs.Lexicographic.{lexicographic_lawful};
 
-use crate::stay_at::StayAt;
-use id_ord_item::IdOrdItem;
+use id_ord_item::{IdOrdItem, compare_numbers};
 use std::cmp::Ordering;
 
 /// A vessel's stay at a berth, from one minute to another.
@@ -28,7 +27,8 @@ impl IdOrdItem for Stay {
     ghost faithful = { Prim.search rules };
 
     fn compare(&self, other: &Stay) -> Ordering {
-        StayAt::from(self).cmp(&StayAt::from(other))
+        let by_berth = compare_numbers(u64::from(self.berth), u64::from(other.berth));
+        by_berth.then(compare_numbers(u64::from(self.from), u64::from(other.from)))
     }
 
     fn same(&self, other: &Stay) -> bool {

@@ -3,8 +3,7 @@ ghost use Rattle.panel_items_tests.specs.Buoy.{by_zone_number_light, same_buoy};
 ghost use Rattle.std.proofs.Common.{rules};
 ghost use Rattle.id_ord_item.proofs.Lexicographic.{lexicographic_lawful};
 
-use crate::buoy_at::BuoyAt;
-use id_ord_item::IdOrdItem;
+use id_ord_item::{IdOrdItem, compare_numbers};
 use std::cmp::Ordering;
 
 /// A buoy in a zone. Its key is the zone, its number there and its light.
@@ -26,7 +25,9 @@ impl IdOrdItem for Buoy {
     ghost faithful = { Prim.search rules };
 
     fn compare(&self, other: &Buoy) -> Ordering {
-        BuoyAt::from(self).cmp(&BuoyAt::from(other))
+        compare_numbers(u64::from(self.zone), u64::from(other.zone))
+            .then(compare_numbers(u64::from(self.number), u64::from(other.number)))
+            .then(compare_numbers(u64::from(self.light), u64::from(other.light)))
     }
 
     fn same(&self, other: &Buoy) -> bool {

@@ -3,13 +3,13 @@ ghost use Rattle.panel_items.specs.CodeText.{sailing_meant};
 
 use super::CodeText;
 use crate::sailing::Sailing;
-use id_ord_item::Comparable;
+use id_ord_item::{Comparable, compare_numbers};
 use std::cmp::Ordering;
 
 impl<'a> Comparable<Sailing> for CodeText<'a> {
     ghost meant = { sailing_meant };
 
     fn compare(&self, item: &Sailing) -> Ordering {
-        self.code().cmp(&item.code)
+        compare_numbers(self.code(), item.code)
     }
 }

@@ -17,18 +17,18 @@ loop-at-preserved g c =
     let read = c.index-slots-at.is ∙ read_on slots old k slot c.loop-at.invariant.rest in
     let rest = drop_on slots old k c.loop-at.invariant.rest in
     elim c.match-slot.branch [
-      | in-Occupied w ↦ let v = Occupied w.in-Occupied.field-0 in let more = count_more old k slot v inside read w.in-Occupied.is in let is = w.count-is in record {
+      | in-Occupied w ↦ let v = Occupied w.in-Occupied.field-0 in let more = count_more old k slot inside read v w.in-Occupied.is in let is = w.count-is in record {
         count = omega arith;
         behind = omega arith;
-        front = ap (λ (j : ℕ). take j c.match-slot.slots) is ∙ ap (take (n + 1)) w.slots-is ∙ take_more_set slots n slot (omega arith) ∙ (let p = pack_more old k slot v inside read w.in-Occupied.is in cc);
+        front = ap (λ (j : ℕ). take j c.match-slot.slots) is ∙ ap (take (n + 1)) w.slots-is ∙ take_more_set slots n slot (omega arith) ∙ (let p = pack_more old k slot inside read v w.in-Occupied.is in cc);
         rest = ap (drop (k + 1)) w.slots-is ∙ drop-set-lt (k + 1) slots n slot (omega arith) ∙ rest;
-        numbers = w.scratch-is ∙ ap (set c.loop-at.scratch k) w.new.ensures ∙ number_more old k slot v inside read w.in-Occupied.is c.loop-at.scratch was (index_of n) long c.loop-at.invariant.numbers (ap (λ (m : ℕ). index_of m ∷ []) (sym c.loop-at.invariant.count));
+        numbers = w.scratch-is ∙ ap (set c.loop-at.scratch k) w.new.ensures ∙ number_more old k slot inside read v w.in-Occupied.is c.loop-at.scratch was (index_of n) long c.loop-at.invariant.numbers (ap (λ (m : ℕ). index_of m ∷ []) (sym c.loop-at.invariant.count));
       }
-      | in-Vacant w ↦ let v = Vacant w.in-Vacant.next in let more = count_more old k slot v inside read w.in-Vacant.is in let is = w.count-is in record {
+      | in-Vacant w ↦ let v = Vacant w.in-Vacant.next in let more = count_more old k slot inside read v w.in-Vacant.is in let is = w.count-is in record {
         count = omega arith;
         behind = omega arith;
-        front = let p = pack_more old k slot v inside read w.in-Vacant.is ∙ append-nil (packed (take k old)) in cc;
+        front = let p = pack_more old k slot inside read v w.in-Vacant.is ∙ append-nil (packed (take k old)) in cc;
         rest = ap (drop (k + 1)) w.slots-is ∙ rest;
-        numbers = w.scratch-is ∙ number_more old k slot v inside read w.in-Vacant.is c.loop-at.scratch was sentinel long c.loop-at.invariant.numbers refl;
+        numbers = w.scratch-is ∙ number_more old k slot inside read v w.in-Vacant.is c.loop-at.scratch was sentinel long c.loop-at.invariant.numbers refl;
       }
     ]
