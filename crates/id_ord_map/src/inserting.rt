@@ -39,6 +39,8 @@ impl<'a, T: IdOrdItem> IdOrdMap<'a, T> {
     }
 
     /// Adds an item whose key does not stand, if there is room for it.
+    // part of both inserts, so that no large item is copied on its way
+    #[inline(always)]
     fn add_new(&mut self, item: T) -> Result<(), MapFull<T>>
         requires absent { stands T.IdOrdItem.order item (walk (view self.old)) ≡ false }
         ensures does { (added result ≡ (adding T.IdOrdItem.order item done (view self.old)).0) × (view self.new ≡ (adding T.IdOrdItem.order item done (view self.old)).1) }

@@ -21,10 +21,14 @@ fn count_occupied<T>(slots: &[ItemSlot<T>]) -> u32
     requires { length slots.now < 2 ^ 32 }
     ensures { result ≡ occupied slots.now }
 {
-    slots
-        .iter()
-        .filter(|slot| matches!(slot, ItemSlot::Occupied(_)))
-        .count() as u32
+    let mut count = 0;
+    for slot in slots {
+        match slot {
+            ItemSlot::Occupied(_) => count += 1,
+            ItemSlot::Vacant { .. } => {}
+        }
+    }
+    count
 }
 
 /// The free slot that one of the chain names, or the fault where it is no vacant slot.
