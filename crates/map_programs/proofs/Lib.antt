@@ -1,2 +1,3 @@
+pub mod Running
 pub mod Reaching
 pub mod Entered
