@@ -20,6 +20,7 @@ use Rattle.panel_items.specs.declared.stay_at.StayAt.{StayAt}
 use Rattle.panel.specs.declared.berths.AddRefusal.{AddRefusal}
 use Rattle.panel.specs.declared.berths.AddRefusal.TheVariants.{Duplicate, Full}
 use Rattle.panel.specs.declared.berths.Berths.{Berths}
+use Rattle.panel.specs.declared.berths.NotThere.{NotThere}
 
 abbrev pub held : Berths → ItemIndex → Option Stay
 held berths i = held_in berths.numbers berths.slots.now i
@@ -42,18 +43,18 @@ Unchanged berths berths' = (berths'.numbers ≡ berths.numbers) × (berths'.slot
 abbrev pub SameMemory : Berths → Berths → Type 0
 SameMemory berths berths' = berths'.slots.ghost_name ≡ berths.slots.ghost_name
 
-abbrev pub Added : Stay → Berths → Result ItemIndex AddRefusal → Berths → Type 0
-Added stay berths (Ok i) berths' =
-    Absent (key_of stay) berths × (next_index berths.numbers berths.slots.now ≡ Some i)
+abbrev pub Added : Stay → Berths → Result (ItemIndex × Stay) AddRefusal → Berths → Type 0
+Added stay berths (Ok (i, s)) berths' =
+    (s ≡ stay) × Absent (key_of stay) berths × (next_index berths.numbers berths.slots.now ≡ Some i)
     × (berths'.numbers ≡ inserted berths.numbers berths.slots.now)
     × (berths'.slots.now ≡ inserted_slots berths.numbers berths.slots.now stay)
 Added stay berths (Err (Duplicate s i)) berths' = (s ≡ stay) × Stands (key_of stay) berths i × Unchanged berths berths'
 Added stay berths (Err (Full s)) berths' =
     (s ≡ stay) × Absent (key_of stay) berths × (next_index berths.numbers berths.slots.now ≡ None) × Unchanged berths berths'
 
-abbrev pub Dropped : StayAt → Berths → Option (ItemIndex × Stay) → Berths → Type 0
-Dropped key berths None berths' = Absent key berths × Unchanged berths berths'
-Dropped key berths (Some (i, s)) berths' =
+abbrev pub Dropped : StayAt → Berths → Result (ItemIndex × Stay) NotThere → Berths → Type 0
+Dropped key berths (Err refusal) berths' = (refusal.key ≡ key) × Absent key berths × Unchanged berths berths'
+Dropped key berths (Ok (i, s)) berths' =
     HasKey key s × (held berths i ≡ Some s)
     × (berths'.numbers ≡ removed berths.numbers berths.slots.now i)
     × (berths'.slots.now ≡ removed_slots berths.numbers berths.slots.now i)

@@ -23,6 +23,12 @@ pub enum AddRefusal {
     Full { stay: Stay },
 }
 
+/// A stay was not dropped: no slot in use holds one with the key.
+#[derive(Clone, Copy, PartialEq, Eq, Debug)]
+pub struct NotThere {
+    pub key: StayAt,
+}
+
 impl<'a> Berths<'a> {
     /// Berths at which no vessel stays.
     pub fn new(slots: &'a mut [ItemSlot<Stay>]) -> Berths<'a>
@@ -54,8 +60,8 @@ impl<'a> Berths<'a> {
             .map(ItemIndex::new)
     }
 
-    /// Adds a stay, unless its key stands or no slot can take it, and answers its slot.
-    pub fn add_stay(&mut self, stay: Stay) -> Result<ItemIndex, AddRefusal>
+    /// Adds a stay, unless its key stands or no slot can take it, and answers it with the slot that it is in.
+    pub fn add_stay(&mut self, stay: Stay) -> Result<(ItemIndex, Stay), AddRefusal>
         ensures added { Added stay self.old result self.new }
         ensures memory { SameMemory self.old self.new }
     {
@@ -64,16 +70,18 @@ impl<'a> Berths<'a> {
         }
         self.numbers
             .insert(self.slots, stay)
+            .map(|slot| (slot, stay))
             .map_err(|refused| AddRefusal::Full { stay: refused.item })
     }
 
     /// Drops the stay with a key, if there is one, and answers it with the slot that it was in.
-    pub fn drop_stay(&mut self, key: StayAt) -> Option<(ItemIndex, Stay)>
+    pub fn drop_stay(&mut self, key: StayAt) -> Result<(ItemIndex, Stay), NotThere>
         ensures dropped { Dropped key self.old result self.new }
         ensures memory { SameMemory self.old self.new }
     {
-        let slot = self.find_slot(key)?;
-        let stay = self.numbers.remove(self.slots, slot)?;
-        Some((slot, stay))
+        let refusal = NotThere { key };
+        let slot = self.find_slot(key).ok_or(refusal)?;
+        let stay = self.numbers.remove(self.slots, slot).ok_or(refusal)?;
+        Ok((slot, stay))
     }
 }

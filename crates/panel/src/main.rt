@@ -31,16 +31,20 @@ There is room for 24 stays.
     panel < FILE                reads a file
     panel --help                prints this";
 
-/// Makes a change, and tells what became of it.
-fn make(rt: &HostRuntime, berths: &mut Berths, change: Change) -> io::Result<()> {
+/// Makes the change of a line, and then prints what became of it.
+fn make(rt: &HostRuntime, berths: &mut Berths, at: u64, change: Change) -> io::Result<()> {
     match change {
         Change::Add(stay) => match berths.add_stay(stay) {
-            Ok(slot) => println!(rt; "slot {} taken by {}", Shown(slot), Shown(stay)),
-            Err(refusal) => println!(rt; "refused, {refusal}"),
+            Ok((slot, stay)) => {
+                println!(rt; "line {at}: slot {} taken by {}", Shown(slot), Shown(stay))
+            }
+            Err(refusal) => println!(rt; "line {at}: refused, {refusal}"),
         },
         Change::Drop(key) => match berths.drop_stay(key) {
-            Some((slot, stay)) => println!(rt; "slot {} freed by {}", Shown(slot), Shown(stay)),
-            None => println!(rt; "nothing to drop: no stay at {}", Shown(key)),
+            Ok((slot, stay)) => {
+                println!(rt; "line {at}: slot {} freed by {}", Shown(slot), Shown(stay))
+            }
+            Err(refusal) => println!(rt; "line {at}: nothing to drop: {refusal}"),
         },
     }
 }
@@ -55,14 +59,11 @@ fn day(rt: &HostRuntime) -> anyhow::Result<()> {
     for (at, line) in (1..=u64::MAX).zip(lines) {
         match read_line(line?.as_slice()) {
             Ok(None) => {}
-            Ok(Some(change)) => {
-                print!(rt; "line {at}: ")?;
-                make(rt, &mut berths, change)?;
-            }
+            Ok(Some(change)) => make(rt, &mut berths, at, change)?,
             Err(fault) => println!(rt; "line {at}: not a change: {fault}")?,
         }
     }
-    println!(rt; "{berths}")?;
+    berths.print_slots(rt)?;
     Ok(())
 }
 

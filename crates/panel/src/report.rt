@@ -1,8 +1,8 @@
 // What the panel prints.
-use crate::berths::{AddRefusal, Berths};
+use crate::berths::{AddRefusal, Berths, NotThere};
 use item_set::{ItemIndex, ItemSlot};
 use panel_items::{Stay, StayAt};
-use std::{fmt, iter};
+use std::{fmt, io, iter};
 
 // The types that it shows are other crates', and the words in which they are shown are this program's.
 /// A slot number, a key, a stay or a slot as it is printed.
@@ -54,16 +54,22 @@ impl fmt::Display for AddRefusal {
     }
 }
 
-/// The slots in use, and the free slots in the order in which they will be taken.
-impl<'a> fmt::Display for Berths<'a> {
+impl fmt::Display for NotThere {
     fn fmt<W: fmt::Write>(&self, f: &mut fmt::Formatter<W>) -> fmt::Result {
+        write!(f, "no stay at {}", Shown(self.key))
+    }
+}
+
+impl<'a> Berths<'a> {
+    /// Prints the slots in use, a line each, and the free slots in the order in which they will be taken.
+    pub fn print_slots(&self, rt: &HostRuntime) -> io::Result<()> {
         let used = self.numbers.used;
         let len = self.numbers.len;
-        writeln!(f, "slots in use: {used}, with a stay: {len}")?;
+        println!(rt; "slots in use: {used}, with a stay: {len}")?;
         for (n, slot) in self.slots.iter().take(used as usize).enumerate() {
-            writeln!(f, "  slot {n}: {}", Shown(*slot))?;
+            println!(rt; "  slot {n}: {}", Shown(*slot))?;
         }
-        write!(f, "free slots:")?;
+        print!(rt; "free slots:")?;
         let next_free = |slot: &ItemIndex| match self.slots.get(slot.as_u32() as usize) {
             Some(ItemSlot::Vacant { next }) => Some(*next),
             _ => None,
@@ -73,8 +79,8 @@ impl<'a> fmt::Display for Berths<'a> {
             .take_while(|slot| !slot.is_sentinel())
             .take(used as usize)
         {
-            write!(f, " {}", Shown(slot))?;
+            print!(rt; " {}", Shown(slot))?;
         }
-        Ok(())
+        println!(rt; "")
     }
 }
