@@ -3,7 +3,7 @@ ghost use Rattle.std.specs.Prelude.{◌≡◌};
 ghost use Rattle.id_ord_law.specs.Parts.{walk};
 ghost use Rattle.id_ord_law.specs.Standing.{found};
 ghost use Rattle.id_ord_map.specs.View.{view};
-ghost use Rattle.map_panel.specs.Handling.{PutsBack, Enters, Inserts, Removes};
+ghost use Rattle.map_panel.specs.Handling.{looked_up, Changes, PutsBack, Enters, Inserts, Removes, Handles};
 
 use crate::refusals::Refusal;
 use id_ord_item::{Comparable, IdOrdItem};
@@ -63,7 +63,9 @@ impl<T: IdOrdItem> Hand<T> {
     }
 
     /// Changes the item in the hand.
-    fn change(&mut self, item: T) -> Result<(), Refusal<T>> {
+    fn change(&mut self, item: T) -> Result<(), Refusal<T>>
+        ensures does { Changes item self.old result self.new }
+    {
         let Hand::Item(held) = self else {
             return Err(Refusal::NoItem);
         };
@@ -89,7 +91,9 @@ impl<T: IdOrdItem> Hand<T> {
     }
 
     /// Looks for a key, and holds the entry of what was found.
-    fn look_up<Q: Comparable<T>>(&mut self, map: &IdOrdMap<'_, T>, query: &Q) -> Handled<T> {
+    fn look_up<Q: Comparable<T>>(&mut self, map: &IdOrdMap<'_, T>, query: &Q) -> Handled<T>
+        ensures { result ≡ looked_up (found T.IdOrdItem.order (Q.Comparable.meant query.now) (walk (view map.now))) }
+    {
         let entry = map.entry(query);
         let found = match &entry {
             Entry::Vacant(_) => Handled::Vacant,
@@ -152,12 +156,14 @@ impl<T: IdOrdItem> Hand<T> {
         }
     }
 
-    /// Does what is asked of the hand.
+    /// Does what is asked of the hand, and tells what was done.
     pub fn handle<Q: Comparable<T> + Copy>(
         &mut self,
         map: &mut IdOrdMap<'_, T>,
         handling: Handling<T, Q>,
-    ) -> Result<Handled<T>, Refusal<T>> {
+    ) -> Result<Handled<T>, Refusal<T>>
+        ensures does { Handles T.IdOrdItem.order Q.Comparable.meant handling self.old (view map.old) result self.new (view map.new) }
+    {
         match handling {
             Handling::Take(query) => Ok(Handled::Took(self.take(map, &query))),
             Handling::Change(item) => {

@@ -1,11 +1,12 @@
 // The upkeep of a board's memory: shrinking it, and adopting it again under numbers that were saved or typed.
 ghost use Rattle.std.specs.Prelude.{◌≡◌, min, length};
+ghost use Rattle.std.specs.Result.{result_unwrap_or};
 ghost use Rattle.id_ord_law.specs.Standing.{Call.shrink_to_fit as ShrinkToFit, Answer.shrunk as Shrunk};
 ghost use Rattle.id_ord_law.specs.Step.{Meets};
 ghost use Rattle.id_ord_map.specs.Fault.{offered, map_fault, adopted};
 ghost use Rattle.id_ord_map.specs.View.{view};
 ghost use Rattle.item_set.specs.Compact.{remapped};
-ghost use Rattle.map_panel.specs.Upkeep.{adopt_answer};
+ghost use Rattle.map_panel.specs.Upkeep.{adopt_answer, Shrinks, Saves, KeepsUp, saved_after, remap_after};
 
 use crate::board::Board;
 use crate::refusals::Refusal;
@@ -66,7 +67,11 @@ fn adopt<T: IdOrdItem>(
 
 impl<T: IdOrdItem> Board<'_, T> {
     /// Shrinks the map, and remembers what became of the slot numbers.
-    fn shrink(&mut self, places: Option<u32>) -> Result<IndexRemap, CompactRefusal> {
+    fn shrink(&mut self, places: Option<u32>) -> Result<IndexRemap, CompactRefusal>
+        ensures does { Shrinks T.IdOrdItem.order places self.old result self.new }
+        ensures saved { self.new.saved ≡ self.old.saved }
+        ensures remap { self.new.remap ≡ result_unwrap_or result self.old.remap }
+    {
         let places = places.map_or(self.scratch.len(), |places| places as usize);
         let remap = shrink_within(&mut self.map, self.scratch, places)?;
         self.remap = remap;
@@ -81,13 +86,20 @@ impl<T: IdOrdItem> Board<'_, T> {
     }
 
     /// Remembers the map's numbers.
-    fn save(&mut self) -> ItemSet {
+    fn save(&mut self) -> ItemSet
+        ensures does { Saves self.old result self.new }
+        ensures remap { self.new.remap ≡ self.old.remap }
+    {
         self.saved = self.map.items();
         self.saved
     }
 
-    /// Does with the board's memory what is asked.
-    pub fn keep_up(&mut self, upkeep: Upkeep) -> Result<Kempt, Refusal<T>> {
+    /// Does with the board's memory what is asked, and tells what became of it.
+    pub fn keep_up(&mut self, upkeep: Upkeep) -> Result<Kempt, Refusal<T>>
+        ensures does { KeepsUp T.IdOrdItem.order upkeep self.old result self.new }
+        ensures saved { self.new.saved ≡ saved_after upkeep self.old }
+        ensures remap { self.new.remap ≡ remap_after result self.old.remap }
+    {
         Ok(match upkeep {
             Upkeep::Shrink(places) => Kempt::Shrunk(self.shrink(places)?),
             Upkeep::Remap(slot) => Kempt::Moved(self.remap(slot)?),
