@@ -1,4 +1,3 @@
-pub mod Held
 pub mod Looks
 pub mod Adopting
 pub mod Ruled

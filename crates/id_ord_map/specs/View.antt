@@ -5,9 +5,9 @@ use Rattle.std.specs.Prelude.{◌≡◌}
 use Rattle.id_ord_law.specs.Parts.{Parts, parts}
 use Rattle.id_ord_map.specs.declared.map.IdOrdMap.{IdOrdMap}
 
-module _ {T : Type 0} {g : _} where
-  abbrev pub view : IdOrdMap T g → Parts T
+module _ {T : Type 0} where
+  abbrev pub view : IdOrdMap T → Parts T
   view m = parts m.slots.now m.table.now m.items
 
-  abbrev pub SameMemory : IdOrdMap T g → IdOrdMap T g → Type 0
+  abbrev pub SameMemory : IdOrdMap T → IdOrdMap T → Type 0
   SameMemory m n = (n.slots.ghost_name ≡ m.slots.ghost_name) × (n.table.ghost_name ≡ m.table.ghost_name)

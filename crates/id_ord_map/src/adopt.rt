@@ -2,6 +2,7 @@
 ghost use Rattle.std.specs.Prelude.{◌≡◌};
 ghost use Rattle.item_set.specs.Chain.{unless};
 ghost use Rattle.id_ord_law.specs.Law.{RunLaw};
+ghost use Rattle.id_ord_law.specs.Parts.{Sound};
 ghost use Rattle.id_ord_law.specs.Reading.{ReadLaw};
 ghost use Rattle.id_ord_map.specs.Fault.{offered, entries_fault, map_fault, Accepts, adopted, Begun, compactness_fault};
 ghost use Rattle.id_ord_map.specs.View.{view, SameMemory};
@@ -69,6 +70,7 @@ impl<'a, T: IdOrdItem> IdOrdMap<'a, T> {
         free_head: ItemIndex,
         count: u32,
     ) -> Result<(), ValidationError>
+        requires sound { Sound T.IdOrdItem.order (view self.old) }
         ensures answer { result ≡ unless (map_fault T.IdOrdItem.order (offered used len free_head (view self.old)) count) }
         ensures after { view self.new ≡ adopted T.IdOrdItem.order (offered used len free_head (view self.old)) count (view self.old) }
         ensures accepts { Accepts T.IdOrdItem.order (offered used len free_head (view self.old)) count result }
@@ -76,6 +78,7 @@ impl<'a, T: IdOrdItem> IdOrdMap<'a, T> {
         ensures law { RunLaw T.IdOrdItem.order T.IdOrdItem.equal }
         ensures reads { ReadLaw T.IdOrdItem.order }
         ensures memory { SameMemory self.old self.new }
+        ensures sound { Sound T.IdOrdItem.order (view self.new) }
     {
         runs_hold::<T>();
         reads_hold::<T>();
@@ -91,6 +94,7 @@ impl<'a, T: IdOrdItem> IdOrdMap<'a, T> {
 
     /// Checks that no slot in use is vacant, where that is asked for. It reads no slot, since a map's parts are sound.
     pub fn validate(&self, compactness: ValidateCompact) -> Result<(), ValidationError>
+        requires sound { Sound T.IdOrdItem.order (view self.now) }
         ensures { result ≡ unless (compactness_fault compactness (view self.now)) }
     {
         self.items.validate_compact(compactness)?;

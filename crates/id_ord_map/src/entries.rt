@@ -1,6 +1,7 @@
 // Entries: what was found where a key was looked for, and what can be done there.
 ghost use Rattle.std.specs.Prelude.{◌≡◌};
 ghost use Rattle.id_ord_law.specs.Law.{Onward};
+ghost use Rattle.id_ord_law.specs.Parts.{Sound};
 ghost use Rattle.id_ord_law.specs.Standing.{Call.entry as LookUp, Call.or_insert as OrInsert, Call.vacant_insert as VacantInsert, Call.vacant_insert_entry as VacantInsertEntry, Call.occupied_insert as OccupiedInsert, Call.occupied_remove as OccupiedRemove, Call.into_mut as IntoMut};
 ghost use Rattle.id_ord_law.specs.Step.{Meets};
 ghost use Rattle.id_ord_map.specs.Answers.{Fresh, holds, entered, made_mut, made_entry, or_made, replaced, taken_out, took_mut};
@@ -32,6 +33,7 @@ pub enum Entry<T: IdOrdItem> {
 impl<'a, T: IdOrdItem> IdOrdMap<'a, T> {
     /// Looks for a key, and answers what it found.
     pub fn entry<Q: Comparable<T>>(&self, query: &Q) -> Entry<T>
+        requires sound { Sound T.IdOrdItem.order (view self.now) }
         ensures does { Meets T.IdOrdItem.order (LookUp (Q.Comparable.meant query.now)) (view self.now) (entered result) (view self.now) }
         ensures stands { Onward T.IdOrdItem.order (LookUp (Q.Comparable.meant query.now)) (view self.now) (view self.now) }
     {
@@ -49,10 +51,12 @@ impl VacantEntry {
         map: &mut IdOrdMap<'_, T>,
         item: T,
     ) -> Result<RefMut<T>, InsertRefusal<T>>
+        requires sound { Sound T.IdOrdItem.order (view map.old) }
         ensures does { Meets T.IdOrdItem.order (VacantInsert item) (view map.old) (made_mut result) (view map.new) }
         ensures stands { Onward T.IdOrdItem.order (VacantInsert item) (view map.old) (view map.new) }
         ensures fresh { Fresh result }
         ensures memory { SameMemory map.old map.new }
+        ensures sound { Sound T.IdOrdItem.order (view map.new) }
     {
         map.insert_unique(item)?;
         Ok(RefMut::new(item))
@@ -65,9 +69,11 @@ impl VacantEntry {
         map: &mut IdOrdMap<'_, T>,
         item: T,
     ) -> Result<OccupiedEntry<T>, InsertRefusal<T>>
+        requires sound { Sound T.IdOrdItem.order (view map.old) }
         ensures does { Meets T.IdOrdItem.order (VacantInsertEntry item) (view map.old) (made_entry result) (view map.new) }
         ensures stands { Onward T.IdOrdItem.order (VacantInsertEntry item) (view map.old) (view map.new) }
         ensures memory { SameMemory map.old map.new }
+        ensures sound { Sound T.IdOrdItem.order (view map.new) }
     {
         map.insert_unique(item)?;
         Ok(OccupiedEntry { item })
@@ -77,18 +83,22 @@ impl VacantEntry {
 impl<T: IdOrdItem> OccupiedEntry<T> {
     /// Puts an item in the place of the one that stands under the entry's key, and answers that. The entry can be used again.
     pub fn insert(&self, map: &mut IdOrdMap<'_, T>, item: T) -> Result<T, ReplaceRefusal<T>>
+        requires sound { Sound T.IdOrdItem.order (view map.old) }
         ensures does { Meets T.IdOrdItem.order (OccupiedInsert self.now.item item) (view map.old) (replaced result) (view map.new) }
         ensures stands { Onward T.IdOrdItem.order (OccupiedInsert self.now.item item) (view map.old) (view map.new) }
         ensures memory { SameMemory map.old map.new }
+        ensures sound { Sound T.IdOrdItem.order (view map.new) }
     {
         map.replace_taken(&self.item, item)
     }
 
     /// Takes out the item that stands under the entry's key, and answers it.
     pub fn remove(self, map: &mut IdOrdMap<'_, T>) -> Result<T, StaleEntry>
+        requires sound { Sound T.IdOrdItem.order (view map.old) }
         ensures does { Meets T.IdOrdItem.order (OccupiedRemove self.item) (view map.old) (taken_out result) (view map.new) }
         ensures stands { Onward T.IdOrdItem.order (OccupiedRemove self.item) (view map.old) (view map.new) }
         ensures memory { SameMemory map.old map.new }
+        ensures sound { Sound T.IdOrdItem.order (view map.new) }
     {
         let OccupiedEntry { item } = self;
         map.remove(&item).ok_or(StaleEntry)
@@ -96,6 +106,7 @@ impl<T: IdOrdItem> OccupiedEntry<T> {
 
     /// A `RefMut` of the item that stands under the entry's key.
     pub fn into_mut(self, map: &IdOrdMap<'_, T>) -> Result<RefMut<T>, StaleEntry>
+        requires sound { Sound T.IdOrdItem.order (view map.now) }
         ensures does { Meets T.IdOrdItem.order (IntoMut self.item) (view map.now) (took_mut result) (view map.now) }
         ensures stands { Onward T.IdOrdItem.order (IntoMut self.item) (view map.now) (view map.now) }
         ensures fresh { Fresh result }
@@ -112,10 +123,12 @@ impl<T: IdOrdItem> Entry<T> {
         map: &mut IdOrdMap<'_, T>,
         item: T,
     ) -> Result<RefMut<T>, OrInsertRefusal<T>>
+        requires sound { Sound T.IdOrdItem.order (view map.old) }
         ensures does { Meets T.IdOrdItem.order (OrInsert (holds self) item) (view map.old) (or_made result) (view map.new) }
         ensures stands { Onward T.IdOrdItem.order (OrInsert (holds self) item) (view map.old) (view map.new) }
         ensures fresh { Fresh result }
         ensures memory { SameMemory map.old map.new }
+        ensures sound { Sound T.IdOrdItem.order (view map.new) }
     {
         match self {
             Entry::Occupied(entry) => entry

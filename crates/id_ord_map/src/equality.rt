@@ -1,7 +1,7 @@
 // When two maps are equal.
 ghost use Rattle.std.specs.Prelude.{◌≡◌, true};
 ghost use Rattle.id_ord_law.specs.Law.{SameWalk};
-ghost use Rattle.id_ord_law.specs.Parts.{walk};
+ghost use Rattle.id_ord_law.specs.Parts.{Sound, walk};
 ghost use Rattle.id_ord_map.specs.View.{view};
 
 use crate::map::IdOrdMap;
@@ -11,6 +11,8 @@ impl<'a, T: IdOrdItem> IdOrdMap<'a, T> {
     // `same`, and not `==`: it goes by what the kind of item says of its items
     /// Whether the walks of two maps have one length and their items agree in every field at every place.
     pub fn same(&self, other: &IdOrdMap<'_, T>) -> bool
+        requires sound { Sound T.IdOrdItem.order (view self.now) }
+        requires other { Sound T.IdOrdItem.order (view other.now) }
         ensures yes { result ≡ true → SameWalk T.IdOrdItem.equal (walk (view self.now)) (walk (view other.now)) }
         ensures no { SameWalk T.IdOrdItem.equal (walk (view self.now)) (walk (view other.now)) → result ≡ true }
     {

@@ -2,7 +2,7 @@
 ghost use Rattle.std.specs.Prelude.{◌≡◌, ◌==◌};
 ghost use Rattle.std.specs.Ordering.{is_eq};
 ghost use Rattle.index_table.specs.Walk.{smaller};
-ghost use Rattle.id_ord_law.specs.Parts.{live, entries, walk, capacity};
+ghost use Rattle.id_ord_law.specs.Parts.{Sound, live, entries, walk, capacity};
 ghost use Rattle.id_ord_map.specs.Looking.{Looked};
 ghost use Rattle.id_ord_map.specs.View.{view};
 
@@ -21,6 +21,7 @@ pub(crate) fn same_key<T: IdOrdItem>(left: &T, right: &T) -> bool
 impl<'a, T: IdOrdItem> IdOrdMap<'a, T> {
     /// The slots and the table entries in use.
     fn in_use(&self) -> (&[ItemSlot<T>], &[Index])
+        requires sound { Sound T.IdOrdItem.order (view self.now) }
         ensures slots { result.0.now ≡ live (view self.now) }
         ensures entries { result.1.now ≡ entries (view self.now) }
     {
@@ -32,6 +33,7 @@ impl<'a, T: IdOrdItem> IdOrdMap<'a, T> {
 
     /// The slot of a key, if it stands.
     pub(crate) fn find_index<Q: Comparable<T>>(&self, query: &Q) -> Option<ItemIndex>
+        requires sound { Sound T.IdOrdItem.order (view self.now) }
         ensures { Looked T.IdOrdItem.order (Q.Comparable.meant query.now) (view self.now) result }
     {
         let (slots, entries) = self.in_use();
@@ -40,6 +42,7 @@ impl<'a, T: IdOrdItem> IdOrdMap<'a, T> {
 
     /// The place of a key: how many of the items have smaller keys.
     pub(crate) fn find_place<Q: Comparable<T>>(&self, query: &Q) -> usize
+        requires sound { Sound T.IdOrdItem.order (view self.now) }
         ensures { result ≡ smaller T.IdOrdItem.order (Q.Comparable.meant query.now) (walk (view self.now)) }
     {
         let (slots, entries) = self.in_use();

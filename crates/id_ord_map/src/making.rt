@@ -2,7 +2,7 @@
 ghost use Rattle.std.specs.Prelude.{◌≡◌, []};
 ghost use Rattle.item_set.specs.Store.{cleared};
 ghost use Rattle.id_ord_law.specs.Law.{Begins, RunLaw};
-ghost use Rattle.id_ord_law.specs.Parts.{parts, capacity};
+ghost use Rattle.id_ord_law.specs.Parts.{Sound, parts, capacity};
 ghost use Rattle.id_ord_law.specs.Reading.{ReadLaw};
 ghost use Rattle.id_ord_map.specs.View.{view};
 
@@ -20,6 +20,7 @@ impl<'a, T: IdOrdItem> IdOrdMap<'a, T> {
         ensures law { RunLaw T.IdOrdItem.order T.IdOrdItem.equal }
         ensures reads { ReadLaw T.IdOrdItem.order }
         ensures memory { (result.slots.ghost_name ≡ slots.entry.ghost_name) × (result.table.ghost_name ≡ table.entry.ghost_name) }
+        ensures sound { Sound T.IdOrdItem.order (view result) }
     {
         runs_hold::<T>();
         reads_hold::<T>();

@@ -1,6 +1,4 @@
 // The map: the memory that it is lent, and its numbers.
-ghost use Rattle.id_ord_law.specs.Parts.{Sound, parts};
-
 use id_ord_item::IdOrdItem;
 use index_table::Index;
 use item_set::{ItemSet, ItemSlot};
@@ -9,14 +7,13 @@ use item_set::{ItemSet, ItemSlot};
 pub(crate) const CAPACITY_LIMIT: usize = 4096;
 
 /// Items in the order of their keys, in memory that the caller lends.
-///
-/// The memory and the numbers are always sound: `adopt` would accept them.
 // What a call does, and that the map is lent the same memory after it, is of two maps and so stands in each contract.
+// That the map is sound stands there too, and not in a ghost field: with one, a generic struct that holds a map of items
+// would be refused where only a generic `impl` makes them items.
 // The memory is lent, with no heap, so items are named by the number of their slot, and the table is an array that is kept sorted.
 #[derive(Drop)]
 pub struct IdOrdMap<'a, T: IdOrdItem> {
     pub(crate) slots: &'a mut [ItemSlot<T>],
     pub(crate) table: &'a mut [Index],
     pub(crate) items: ItemSet,
-    pub ghost sound: { ∥ Sound T.IdOrdItem.order (parts slots.now table.now items) ∥₁ },
 }

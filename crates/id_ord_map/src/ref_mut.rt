@@ -1,6 +1,7 @@
 // An item taken for a change, and putting it back.
 ghost use Rattle.std.specs.Prelude.{◌≡◌};
 ghost use Rattle.id_ord_law.specs.Law.{Onward};
+ghost use Rattle.id_ord_law.specs.Parts.{Sound};
 ghost use Rattle.id_ord_law.specs.Standing.{Call.put_back as PutBack};
 ghost use Rattle.id_ord_law.specs.Step.{Meets};
 ghost use Rattle.id_ord_map.specs.Answers.{fresh, put_back};
@@ -54,9 +55,11 @@ impl<T: IdOrdItem> RefMut<T> {
 
     /// Puts the item as changed in the place of the one that stands under its key.
     pub fn put_back(self, map: &mut IdOrdMap<'_, T>) -> Result<(), ReplaceRefusal<T>>
+        requires sound { Sound T.IdOrdItem.order (view map.old) }
         ensures does { Meets T.IdOrdItem.order (PutBack self.taken self.changed) (view map.old) (put_back result) (view map.new) }
         ensures stands { Onward T.IdOrdItem.order (PutBack self.taken self.changed) (view map.old) (view map.new) }
         ensures memory { SameMemory map.old map.new }
+        ensures sound { Sound T.IdOrdItem.order (view map.new) }
     {
         let RefMut { taken, changed } = self;
         let _ = map.replace_taken(&taken, changed)?;

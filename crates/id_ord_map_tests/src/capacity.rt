@@ -1,4 +1,8 @@
 // The capacity of a map: the least of its slots, its table entries and 4,096.
+ghost use Rattle.id_ord_law.specs.Parts.{Sound};
+ghost use Rattle.id_ord_map.specs.View.{view};
+ghost use Rattle.panel_items.specs.Sailing.{by_code};
+
 use crate::memory::{S, entries, sailing, stay, vacant};
 use id_ord_errors::{InsertRefusal, MapFull};
 use id_ord_map::IdOrdMap;
@@ -9,7 +13,10 @@ use std::process::Abort;
 use std::test::Fail;
 
 /// Inserts the sailings with the codes below a number.
-fn insert_below(map: &mut IdOrdMap<'_, Sailing>, codes: u64) -> Result<(), Fail> {
+fn insert_below(map: &mut IdOrdMap<'_, Sailing>, codes: u64) -> Result<(), Fail>
+    requires sound { Sound by_code (view map.old) }
+    ensures sound { Sound by_code (view map.new) }
+{
     for code in 0..codes {
         map.insert_unique(sailing(code))?;
     }

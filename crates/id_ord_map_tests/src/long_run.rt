@@ -1,4 +1,8 @@
 // A long mixed run of calls, held at every step to the standard library's map of the stays that should stand.
+ghost use Rattle.id_ord_law.specs.Parts.{Sound};
+ghost use Rattle.id_ord_map.specs.View.{view};
+ghost use Rattle.panel_items.specs.Stay.{by_berth_then_from};
+
 use crate::memory::{S, at, entries, of_vessel, scratch, vacant};
 use id_ord_item::KeepFirst;
 use id_ord_map::IdOrdMap;
@@ -33,7 +37,10 @@ impl Run<'_> {
         self.standing.len() < CAPACITY
     }
 
-    fn insert_unique(&mut self, rt: &impl Abort, stay: Stay) -> Result<(), Fail> {
+    fn insert_unique(&mut self, rt: &impl Abort, stay: Stay) -> Result<(), Fail>
+        requires sound { Sound by_berth_then_from (view self.old.map) }
+        ensures sound { Sound by_berth_then_from (view self.new.map) }
+    {
         let fits = self.has_room() && !self.standing.contains_key(&stay.from);
         if fits {
             self.standing.insert(stay.from, stay)?;
@@ -42,7 +49,10 @@ impl Run<'_> {
         Ok(())
     }
 
-    fn or_insert(&mut self, rt: &impl Abort, stay: Stay) -> Result<(), Fail> {
+    fn or_insert(&mut self, rt: &impl Abort, stay: Stay) -> Result<(), Fail>
+        requires sound { Sound by_berth_then_from (view self.old.map) }
+        ensures sound { Sound by_berth_then_from (view self.new.map) }
+    {
         let has_room = self.has_room();
         let stands = self.standing.contains_key(&stay.from);
         if has_room && !stands {
@@ -54,7 +64,10 @@ impl Run<'_> {
         Ok(())
     }
 
-    fn insert_overwrite(&mut self, rt: &impl Abort, stay: Stay) -> Result<(), Fail> {
+    fn insert_overwrite(&mut self, rt: &impl Abort, stay: Stay) -> Result<(), Fail>
+        requires sound { Sound by_berth_then_from (view self.old.map) }
+        ensures sound { Sound by_berth_then_from (view self.new.map) }
+    {
         let fits = self.has_room() || self.standing.contains_key(&stay.from);
         let expected = if fits {
             Some(self.standing.insert(stay.from, stay)?)
@@ -65,21 +78,33 @@ impl Run<'_> {
         Ok(())
     }
 
-    fn pop_first(&mut self, rt: &impl Abort) {
+    fn pop_first(&mut self, rt: &impl Abort)
+        requires sound { Sound by_berth_then_from (view self.old.map) }
+        ensures sound { Sound by_berth_then_from (view self.new.map) }
+    {
         let first = self.standing.pop_first().map(|(_, stay)| stay);
         assert_eq!(rt; self.map.pop_first(), first);
     }
 
-    fn pop_last(&mut self, rt: &impl Abort) {
+    fn pop_last(&mut self, rt: &impl Abort)
+        requires sound { Sound by_berth_then_from (view self.old.map) }
+        ensures sound { Sound by_berth_then_from (view self.new.map) }
+    {
         let last = self.standing.pop_last().map(|(_, stay)| stay);
         assert_eq!(rt; self.map.pop_last(), last);
     }
 
-    fn remove(&mut self, rt: &impl Abort, from: u32) {
+    fn remove(&mut self, rt: &impl Abort, from: u32)
+        requires sound { Sound by_berth_then_from (view self.old.map) }
+        ensures sound { Sound by_berth_then_from (view self.new.map) }
+    {
         assert_eq!(rt; self.map.remove(&at(4, from)), self.standing.remove(&from));
     }
 
-    fn keep_first(&mut self, most: u32) -> Result<(), Fail> {
+    fn keep_first(&mut self, most: u32) -> Result<(), Fail>
+        requires sound { Sound by_berth_then_from (view self.old.map) }
+        ensures sound { Sound by_berth_then_from (view self.new.map) }
+    {
         let standing = &mut self.standing;
         for _ in most as usize..standing.len() {
             standing.pop_last();
@@ -88,7 +113,10 @@ impl Run<'_> {
         Ok(())
     }
 
-    fn clear_and_adopt(&mut self) -> Result<(), Fail> {
+    fn clear_and_adopt(&mut self) -> Result<(), Fail>
+        requires sound { Sound by_berth_then_from (view self.old.map) }
+        ensures sound { Sound by_berth_then_from (view self.new.map) }
+    {
         let kept = self.map.items();
         self.map.clear();
         self.map
@@ -96,7 +124,10 @@ impl Run<'_> {
         Ok(())
     }
 
-    fn put_back(&mut self, rt: &impl Abort, stay: Stay) -> Result<(), Fail> {
+    fn put_back(&mut self, rt: &impl Abort, stay: Stay) -> Result<(), Fail>
+        requires sound { Sound by_berth_then_from (view self.old.map) }
+        ensures sound { Sound by_berth_then_from (view self.new.map) }
+    {
         let Some(mut item) = self.map.get_mut(&stay) else {
             assert_eq!(rt; self.standing.get(&stay.from), None);
             return Ok(());
@@ -108,7 +139,10 @@ impl Run<'_> {
     }
 
     /// One call, chosen by a number that looks like chance.
-    fn make_one_call(&mut self, rt: &impl Abort, x: u32) -> Result<(), Fail> {
+    fn make_one_call(&mut self, rt: &impl Abort, x: u32) -> Result<(), Fail>
+        requires sound { Sound by_berth_then_from (view self.old.map) }
+        ensures sound { Sound by_berth_then_from (view self.new.map) }
+    {
         let from = (x >> 8) % KEYS;
         let stay = of_vessel(4, from, u64::from(x));
         // more stays are added than taken out, so that the map is often full
@@ -130,7 +164,9 @@ impl Run<'_> {
     }
 
     /// The walk of the map is what should stand, after the call that this number chose.
-    fn check_walk(&self, rt: &impl Abort, x: u32) {
+    fn check_walk(&self, rt: &impl Abort, x: u32)
+        requires sound { Sound by_berth_then_from (view self.now.map) }
+    {
         for from in 0..KEYS {
             let stay = self.standing.get(&from).copied();
             assert_eq!(rt; self.map.get(&at(4, from)), stay, "after {x}");

@@ -1,6 +1,8 @@
 // Short ways to write stays and faults, and the memory and numbers of a map, in a test.
 // The crates of tests have no helpers in common, so that each can be read by itself.
-ghost use Rattle.id_ord_map.specs.View.{SameMemory};
+ghost use Rattle.id_ord_law.specs.Parts.{Sound};
+ghost use Rattle.id_ord_map.specs.View.{view, SameMemory};
+ghost use Rattle.panel_items.specs.Stay.{by_berth_then_from};
 
 use id_ord_errors::{Layer, ValidationError};
 use id_ord_map::IdOrdMap;
@@ -120,7 +122,9 @@ pub fn told(answer: Result<(), ValidationError>) -> Result<(), (u8, Layer, usize
 
 /// Inserts the stays (4,540), (2,600), (4,530), in this order.
 pub fn insert_three(map: &mut IdOrdMap<'_, Stay>) -> Result<(), Fail>
+    requires sound { Sound by_berth_then_from (view map.old) }
     ensures memory { SameMemory map.old map.new }
+    ensures sound { Sound by_berth_then_from (view map.new) }
 {
     map.insert_unique(stay(4, 540))?;
     map.insert_unique(stay(2, 600))?;

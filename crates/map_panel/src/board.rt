@@ -1,4 +1,7 @@
 // A board: a map of one kind of item, with what the panel remembers of it from line to line.
+ghost use Rattle.id_ord_law.specs.Parts.{Sound};
+ghost use Rattle.id_ord_map.specs.View.{view};
+
 use crate::handling::Hand;
 use crate::memory::Memory;
 use id_ord_item::IdOrdItem;
@@ -19,7 +22,9 @@ pub struct Board<'m, T: IdOrdItem> {
 
 impl<'m, T: IdOrdItem> Board<'m, T> {
     /// An empty board over this memory.
-    pub fn new(memory: &'m mut Memory<T>) -> Board<'m, T> {
+    pub fn new(memory: &'m mut Memory<T>) -> Board<'m, T>
+        ensures sound { Sound T.IdOrdItem.order (view result.map) }
+    {
         Board {
             map: IdOrdMap::new(memory.slots.as_mut_slice(), memory.table.as_mut_slice()),
             hand: Hand::Empty,

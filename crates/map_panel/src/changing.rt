@@ -1,5 +1,6 @@
 // Changing the items of a board: adding, overwriting, dropping, popping and clearing.
 ghost use Rattle.std.specs.Prelude.{IfOk};
+ghost use Rattle.id_ord_law.specs.Parts.{Sound};
 ghost use Rattle.id_ord_law.specs.Step.{Meets};
 ghost use Rattle.id_ord_map.specs.View.{view};
 ghost use Rattle.map_panel.specs.Changing.{call_of, answered, Tells};
@@ -38,8 +39,10 @@ pub fn make_change<T: IdOrdItem, Q: Comparable<T> + Copy>(
     map: &mut IdOrdMap<'_, T>,
     change: Change<T, Q>,
 ) -> Result<Changed<T>, InsertRefusal<T>>
+    requires sound { Sound T.IdOrdItem.order (view map.old) }
     ensures does { Meets T.IdOrdItem.order (call_of Q.Comparable.meant change) (view map.old) (answered result) (view map.new) }
     ensures tells { IfOk result (Tells change) }
+    ensures sound { Sound T.IdOrdItem.order (view map.new) }
 {
     Ok(match change {
         Change::Add(item) => {

@@ -1,6 +1,6 @@
 // What a board's hand does: it takes an item out for a change and puts it back, or holds an entry and uses it.
 ghost use Rattle.std.specs.Prelude.{◌≡◌};
-ghost use Rattle.id_ord_law.specs.Parts.{walk};
+ghost use Rattle.id_ord_law.specs.Parts.{Sound, walk};
 ghost use Rattle.id_ord_law.specs.Standing.{found};
 ghost use Rattle.id_ord_map.specs.View.{view};
 ghost use Rattle.map_panel.specs.Handling.{looked_up, Changes, PutsBack, Enters, Inserts, Removes, Handles};
@@ -54,6 +54,7 @@ pub enum Handled<T> {
 impl<T: IdOrdItem> Hand<T> {
     /// Looks for an item, and takes it into the hand.
     fn take<Q: Comparable<T>>(&mut self, map: &IdOrdMap<'_, T>, query: &Q) -> Option<T>
+        requires sound { Sound T.IdOrdItem.order (view map.now) }
         ensures { result ≡ found T.IdOrdItem.order (Q.Comparable.meant query.now) (walk (view map.now)) }
     {
         let item = map.get_mut(query)?;
@@ -75,7 +76,9 @@ impl<T: IdOrdItem> Hand<T> {
 
     /// Puts the item in the hand back on the board, and answers it as changed.
     fn put_back(&mut self, map: &mut IdOrdMap<'_, T>) -> Result<T, Refusal<T>>
+        requires sound { Sound T.IdOrdItem.order (view map.old) }
         ensures does { PutsBack T.IdOrdItem.order self.old (view map.old) result (view map.new) }
+        ensures sound { Sound T.IdOrdItem.order (view map.new) }
     {
         match mem::replace(self, Hand::Empty) {
             Hand::Item(item) => {
@@ -92,6 +95,7 @@ impl<T: IdOrdItem> Hand<T> {
 
     /// Looks for a key, and holds the entry of what was found.
     fn look_up<Q: Comparable<T>>(&mut self, map: &IdOrdMap<'_, T>, query: &Q) -> Handled<T>
+        requires sound { Sound T.IdOrdItem.order (view map.now) }
         ensures { result ≡ looked_up (found T.IdOrdItem.order (Q.Comparable.meant query.now) (walk (view map.now))) }
     {
         let entry = map.entry(query);
@@ -105,7 +109,9 @@ impl<T: IdOrdItem> Hand<T> {
 
     /// Takes the item of the entry in the hand, or of a vacant entry the item offered, which is then added.
     fn enter(&mut self, map: &mut IdOrdMap<'_, T>, item: T) -> Result<T, Refusal<T>>
+        requires sound { Sound T.IdOrdItem.order (view map.old) }
         ensures does { Enters T.IdOrdItem.order item self.old (view map.old) result (view map.new) }
+        ensures sound { Sound T.IdOrdItem.order (view map.new) }
     {
         match mem::replace(self, Hand::Empty) {
             Hand::Entry(entry) => {
@@ -123,7 +129,9 @@ impl<T: IdOrdItem> Hand<T> {
 
     /// Puts an item where the entry in the hand is: in the place of the item that stands there, which it answers, or added.
     fn insert(&mut self, map: &mut IdOrdMap<'_, T>, item: T) -> Result<Option<T>, Refusal<T>>
+        requires sound { Sound T.IdOrdItem.order (view map.old) }
         ensures does { Inserts T.IdOrdItem.order item self.old (view map.old) result (view map.new) }
+        ensures sound { Sound T.IdOrdItem.order (view map.new) }
     {
         match mem::replace(self, Hand::Empty) {
             Hand::Entry(Entry::Vacant(entry)) => {
@@ -145,7 +153,9 @@ impl<T: IdOrdItem> Hand<T> {
 
     /// Takes out the item of the entry in the hand, and answers it.
     fn remove(&mut self, map: &mut IdOrdMap<'_, T>) -> Result<T, Refusal<T>>
+        requires sound { Sound T.IdOrdItem.order (view map.old) }
         ensures does { Removes T.IdOrdItem.order self.old (view map.old) result (view map.new) }
+        ensures sound { Sound T.IdOrdItem.order (view map.new) }
     {
         match mem::replace(self, Hand::Empty) {
             Hand::Entry(Entry::Occupied(entry)) => Ok(entry.remove(map)?),
@@ -162,7 +172,9 @@ impl<T: IdOrdItem> Hand<T> {
         map: &mut IdOrdMap<'_, T>,
         handling: Handling<T, Q>,
     ) -> Result<Handled<T>, Refusal<T>>
+        requires sound { Sound T.IdOrdItem.order (view map.old) }
         ensures does { Handles T.IdOrdItem.order Q.Comparable.meant handling self.old (view map.old) result self.new (view map.new) }
+        ensures sound { Sound T.IdOrdItem.order (view map.new) }
     {
         match handling {
             Handling::Take(query) => Ok(Handled::Took(self.take(map, &query))),

@@ -1,5 +1,6 @@
 // Keeping the items that a rule keeps.
 ghost use Rattle.std.specs.Prelude.{IfOk};
+ghost use Rattle.id_ord_law.specs.Parts.{Sound};
 ghost use Rattle.id_ord_law.specs.Standing.{Call.retain as Retain, told};
 ghost use Rattle.id_ord_law.specs.Step.{Meets};
 ghost use Rattle.id_ord_map.specs.View.{view};
@@ -21,8 +22,10 @@ pub fn keep_by<T: IdOrdItem, R: KeepRule<T>>(
     map: &mut IdOrdMap<'_, T>,
     rule: &mut R,
 ) -> Result<Kept, KeyChanged<T>>
+    requires sound { Sound T.IdOrdItem.order (view map.old) }
     ensures does { Meets T.IdOrdItem.order (Retain (told R.KeepRule.verdict R.KeepRule.changed R.KeepRule.next rule.old)) (view map.old) (answered result) (view map.new) }
     ensures counts { IfOk result (Counts (view map.old) (view map.new)) }
+    ensures sound { Sound T.IdOrdItem.order (view map.new) }
 {
     let before = map.len();
     map.retain(rule)?;

@@ -1,5 +1,6 @@
 // Looking at a board, which changes nothing.
 ghost use Rattle.std.specs.Prelude.{◌≡◌};
+ghost use Rattle.id_ord_law.specs.Parts.{Sound};
 ghost use Rattle.id_ord_map.specs.View.{view};
 ghost use Rattle.map_panel.specs.Looking.{seen};
 
@@ -32,6 +33,7 @@ pub fn look_at<T: IdOrdItem, Q: Comparable<T> + Copy>(
     map: &IdOrdMap<'_, T>,
     look: Look<Q>,
 ) -> Result<Seen<T>, ValidationError>
+    requires sound { Sound T.IdOrdItem.order (view map.now) }
     ensures { result ≡ seen T.IdOrdItem.order Q.Comparable.meant look (view map.now) }
 {
     Ok(match look {

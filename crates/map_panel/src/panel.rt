@@ -1,4 +1,9 @@
 // The panel: its two boards, and the commands that it carries out on them, line by line.
+ghost use Rattle.id_ord_law.specs.Parts.{Sound};
+ghost use Rattle.id_ord_map.specs.View.{view};
+ghost use Rattle.panel_items.specs.Sailing.{by_code};
+ghost use Rattle.panel_items.specs.Stay.{by_berth_then_from};
+
 use crate::board::Board;
 use crate::command::Command;
 use crate::reading::read_line;
@@ -15,7 +20,12 @@ pub struct Panel<'m> {
 
 impl<'m> Panel<'m> {
     /// Carries out a command, and prints what was done.
-    fn obey(&mut self, rt: &HostRuntime, command: Command<'_>) -> io::Result<()> {
+    fn obey(&mut self, rt: &HostRuntime, command: Command<'_>) -> io::Result<()>
+        requires stays { Sound by_berth_then_from (view self.old.stays.map) }
+        requires sailings { Sound by_code (view self.old.sailings.map) }
+        ensures stays { Sound by_berth_then_from (view self.new.stays.map) }
+        ensures sailings { Sound by_code (view self.new.sailings.map) }
+    {
         match command {
             Command::Stays(order) => self.stays.serve(rt, order),
             Command::Sailings(order) => self.sailings.serve(rt, order),
@@ -24,7 +34,12 @@ impl<'m> Panel<'m> {
     }
 
     /// Carries out the command of a line, if it has one, or tells what is wrong with the line.
-    fn obey_line(&mut self, rt: &HostRuntime, at: u64, line: &[u8]) -> io::Result<()> {
+    fn obey_line(&mut self, rt: &HostRuntime, at: u64, line: &[u8]) -> io::Result<()>
+        requires stays { Sound by_berth_then_from (view self.old.stays.map) }
+        requires sailings { Sound by_code (view self.old.sailings.map) }
+        ensures stays { Sound by_berth_then_from (view self.new.stays.map) }
+        ensures sailings { Sound by_code (view self.new.sailings.map) }
+    {
         match read_line(line) {
             Ok(None) => Ok(()),
             Ok(Some(command)) => {
@@ -36,7 +51,12 @@ impl<'m> Panel<'m> {
     }
 
     /// Carries out the commands of the input, line by line.
-    fn obey_lines(&mut self, rt: &HostRuntime) -> anyhow::Result<()> {
+    fn obey_lines(&mut self, rt: &HostRuntime) -> anyhow::Result<()>
+        requires stays { Sound by_berth_then_from (view self.old.stays.map) }
+        requires sailings { Sound by_code (view self.old.sailings.map) }
+        ensures stays { Sound by_berth_then_from (view self.new.stays.map) }
+        ensures sailings { Sound by_code (view self.new.sailings.map) }
+    {
         let lines = BufReader::new(rt.alloc(), rt.stdin())?.split(rt.alloc(), b'\n');
         for (at, line) in (1..=u64::MAX).zip(lines) {
             self.obey_line(rt, at, line?.as_slice())?;
@@ -45,7 +65,12 @@ impl<'m> Panel<'m> {
     }
 
     /// Obeys the input, and prints the boards as they are at its end.
-    pub fn show_day(&mut self, rt: &HostRuntime) -> anyhow::Result<()> {
+    pub fn show_day(&mut self, rt: &HostRuntime) -> anyhow::Result<()>
+        requires stays { Sound by_berth_then_from (view self.old.stays.map) }
+        requires sailings { Sound by_code (view self.old.sailings.map) }
+        ensures stays { Sound by_berth_then_from (view self.new.stays.map) }
+        ensures sailings { Sound by_code (view self.new.sailings.map) }
+    {
         self.obey_lines(rt)?;
         println!(rt; "stays:")?;
         self.stays.print_items(rt)?;

@@ -1,4 +1,7 @@
 // Carrying out what is asked of a board, and printing what was done.
+ghost use Rattle.id_ord_law.specs.Parts.{Sound};
+ghost use Rattle.id_ord_map.specs.View.{view};
+
 use crate::board::Board;
 use crate::changing::make_change;
 use crate::command::Order;
@@ -27,7 +30,9 @@ impl<T: Shown> Board<'_, T> {
     }
 
     /// Prints the items in order.
-    pub fn print_items(&self, rt: &HostRuntime) -> io::Result<()> {
+    pub fn print_items(&self, rt: &HostRuntime) -> io::Result<()>
+        requires sound { Sound T.IdOrdItem.order (view self.now.map) }
+    {
         // A map gives its items by place.
         for place in 0..self.map.len() as usize {
             if let Some(item) = self.map.iter(place) {
@@ -52,7 +57,10 @@ impl<T: Shown> Board<'_, T> {
     }
 
     /// Keeps the items that a rule keeps, and prints how many.
-    pub fn keep<R: KeepRule<T> + Drop>(&mut self, rt: &HostRuntime, mut rule: R) -> io::Result<()> {
+    pub fn keep<R: KeepRule<T> + Drop>(&mut self, rt: &HostRuntime, mut rule: R) -> io::Result<()>
+        requires sound { Sound T.IdOrdItem.order (view self.old.map) }
+        ensures sound { Sound T.IdOrdItem.order (view self.new.map) }
+    {
         Self::tell(rt, keep_by(&mut self.map, &mut rule))
     }
 
@@ -61,7 +69,10 @@ impl<T: Shown> Board<'_, T> {
         &mut self,
         rt: &HostRuntime,
         order: Order<T, Q>,
-    ) -> io::Result<()> {
+    ) -> io::Result<()>
+        requires sound { Sound T.IdOrdItem.order (view self.old.map) }
+        ensures sound { Sound T.IdOrdItem.order (view self.new.map) }
+    {
         match order {
             Order::Look(look) => Self::tell(rt, look_at(&self.map, look)),
             Order::Change(change) => Self::tell(rt, make_change(&mut self.map, change)),

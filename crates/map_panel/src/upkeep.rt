@@ -1,6 +1,7 @@
 // The upkeep of a board's memory: shrinking it, and adopting it again under numbers that were saved or typed.
 ghost use Rattle.std.specs.Prelude.{◌≡◌, min, length};
 ghost use Rattle.std.specs.Result.{result_unwrap_or};
+ghost use Rattle.id_ord_law.specs.Parts.{Sound};
 ghost use Rattle.id_ord_law.specs.Standing.{Call.shrink_to_fit as ShrinkToFit, Answer.shrunk as Shrunk};
 ghost use Rattle.id_ord_law.specs.Step.{Meets};
 ghost use Rattle.id_ord_map.specs.Fault.{offered, map_fault, adopted};
@@ -46,7 +47,9 @@ fn shrink_within<T: IdOrdItem>(
     scratch: &mut [ItemIndex],
     places: usize,
 ) -> Result<IndexRemap, CompactRefusal>
+    requires sound { Sound T.IdOrdItem.order (view map.old) }
     ensures does { Meets T.IdOrdItem.order (ShrinkToFit (min places (length scratch.old))) (view map.old) (Shrunk result) (view map.new) }
+    ensures sound { Sound T.IdOrdItem.order (view map.new) }
 {
     let places = places.min(scratch.len());
     map.shrink_to_fit(&mut scratch[0..places])
@@ -58,8 +61,10 @@ fn adopt<T: IdOrdItem>(
     numbers: ItemSet,
     count: u32,
 ) -> Result<u32, ValidationError>
+    requires sound { Sound T.IdOrdItem.order (view map.old) }
     ensures answer { result ≡ adopt_answer numbers.len (map_fault T.IdOrdItem.order (offered numbers.used numbers.len numbers.free_head (view map.old)) count) }
     ensures after { view map.new ≡ adopted T.IdOrdItem.order (offered numbers.used numbers.len numbers.free_head (view map.old)) count (view map.old) }
+    ensures sound { Sound T.IdOrdItem.order (view map.new) }
 {
     map.adopt(numbers.used, numbers.len, numbers.free_head, count)?;
     Ok(numbers.len)
@@ -68,9 +73,11 @@ fn adopt<T: IdOrdItem>(
 impl<T: IdOrdItem> Board<'_, T> {
     /// Shrinks the map, and remembers what became of the slot numbers.
     fn shrink(&mut self, places: Option<u32>) -> Result<IndexRemap, CompactRefusal>
+        requires sound { Sound T.IdOrdItem.order (view self.old.map) }
         ensures does { Shrinks T.IdOrdItem.order places self.old result self.new }
         ensures saved { self.new.saved ≡ self.old.saved }
         ensures remap { self.new.remap ≡ result_unwrap_or result self.old.remap }
+        ensures sound { Sound T.IdOrdItem.order (view self.new.map) }
     {
         let places = places.map_or(self.scratch.len(), |places| places as usize);
         let remap = shrink_within(&mut self.map, self.scratch, places)?;
@@ -87,8 +94,10 @@ impl<T: IdOrdItem> Board<'_, T> {
 
     /// Remembers the map's numbers.
     fn save(&mut self) -> ItemSet
+        requires sound { Sound T.IdOrdItem.order (view self.old.map) }
         ensures does { Saves self.old result self.new }
         ensures remap { self.new.remap ≡ self.old.remap }
+        ensures sound { Sound T.IdOrdItem.order (view self.new.map) }
     {
         self.saved = self.map.items();
         self.saved
@@ -96,9 +105,11 @@ impl<T: IdOrdItem> Board<'_, T> {
 
     /// Does with the board's memory what is asked, and tells what became of it.
     pub fn keep_up(&mut self, upkeep: Upkeep) -> Result<Kempt, Refusal<T>>
+        requires sound { Sound T.IdOrdItem.order (view self.old.map) }
         ensures does { KeepsUp T.IdOrdItem.order upkeep self.old result self.new }
         ensures saved { self.new.saved ≡ saved_after upkeep self.old }
         ensures remap { self.new.remap ≡ remap_after result self.old.remap }
+        ensures sound { Sound T.IdOrdItem.order (view self.new.map) }
     {
         Ok(match upkeep {
             Upkeep::Shrink(places) => Kempt::Shrunk(self.shrink(places)?),

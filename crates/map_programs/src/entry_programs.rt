@@ -1,6 +1,6 @@
 // Two programs that use entries as they are meant to be used: one entry for each removal, and the occupied case for a replacement.
 ghost use Rattle.std.specs.Prelude.{◌≡◌};
-ghost use Rattle.id_ord_law.specs.Parts.{walk};
+ghost use Rattle.id_ord_law.specs.Parts.{Sound, walk};
 ghost use Rattle.id_ord_law.specs.Standing.{found};
 ghost use Rattle.id_ord_map.specs.Answers.{replaced, taken_out};
 ghost use Rattle.id_ord_map.specs.View.{view, SameMemory};
@@ -17,9 +17,11 @@ pub fn remove_through_two_entries<T: IdOrdItem, Q: Comparable<T>>(
     query: &Q,
     other: &Q,
 ) -> Result<T, StaleEntry>
+    requires sound { Sound T.IdOrdItem.order (view map.old) }
     ensures answer { taken_out result ≡ (removes_two T.IdOrdItem.order (found T.IdOrdItem.order (Q.Comparable.meant query.now) (walk (view map.old))) (found T.IdOrdItem.order (Q.Comparable.meant other.now) (walk (view map.old))) (view map.old)).0 }
     ensures after { view map.new ≡ (removes_two T.IdOrdItem.order (found T.IdOrdItem.order (Q.Comparable.meant query.now) (walk (view map.old))) (found T.IdOrdItem.order (Q.Comparable.meant other.now) (walk (view map.old))) (view map.old)).1 }
     ensures memory { SameMemory map.old map.new }
+    ensures sound { Sound T.IdOrdItem.order (view map.new) }
 {
     let Entry::Occupied(first) = map.entry(query) else {
         return Err(StaleEntry);
@@ -37,9 +39,11 @@ pub fn replace_through_the_occupied_case<T: IdOrdItem, Q: Comparable<T>>(
     query: &Q,
     item: T,
 ) -> Result<T, ReplaceRefusal<T>>
+    requires sound { Sound T.IdOrdItem.order (view map.old) }
     ensures answer { replaced result ≡ (replaces_found T.IdOrdItem.order item (found T.IdOrdItem.order (Q.Comparable.meant query.now) (walk (view map.old))) (view map.old)).0 }
     ensures after { view map.new ≡ (replaces_found T.IdOrdItem.order item (found T.IdOrdItem.order (Q.Comparable.meant query.now) (walk (view map.old))) (view map.old)).1 }
     ensures memory { SameMemory map.old map.new }
+    ensures sound { Sound T.IdOrdItem.order (view map.new) }
 {
     let Entry::Occupied(entry) = map.entry(query) else {
         return Err(ReplaceRefusal::Stale { item });

@@ -2,7 +2,7 @@
 ghost use Rattle.std.specs.Prelude.{◌≡◌, ◌<◌, [], ◌∷◌, length, None};
 ghost use Rattle.item_set.specs.Store.{cleared};
 ghost use Rattle.id_ord_law.specs.Law.{Walks, stood, heard};
-ghost use Rattle.id_ord_law.specs.Parts.{parts, capacity};
+ghost use Rattle.id_ord_law.specs.Parts.{Sound, parts, capacity};
 ghost use Rattle.id_ord_law.specs.Standing.{Answer.duplicate as Duplicate, told};
 ghost use Rattle.id_ord_map.specs.Answers.{inserted};
 ghost use Rattle.id_ord_map.specs.View.{view};
@@ -23,6 +23,7 @@ pub fn with_one_item<'a, T: IdOrdItem>(
 ) -> IdOrdMap<'a, T>
     requires room { 0 < capacity (parts slots.old table.old cleared) }
     ensures walks { Walks T.IdOrdItem.order (view result) (item ∷ []) }
+    ensures sound { Sound T.IdOrdItem.order (view result) }
 {
     let mut map = IdOrdMap::new(slots, table);
     let _ = map.insert_unique(item);
@@ -53,6 +54,7 @@ pub fn after_every_call<'a, T: IdOrdItem, Q: Comparable<T>, R: KeepRule<T>>(
     rule: &mut R,
 ) -> IdOrdMap<'a, T>
     ensures walks { Walks T.IdOrdItem.order (view result) (stood T.IdOrdItem.order (capacity (parts slots.old table.old cleared)) (every_call (Q.Comparable.meant query.now) None (length scratch.old) supplies (told R.KeepRule.verdict R.KeepRule.changed R.KeepRule.next rule.old)) []) }
+    ensures sound { Sound T.IdOrdItem.order (view result) }
 {
     let mut map = IdOrdMap::new(slots, table);
     make_every_call(&mut map, query, scratch, supplies, rule);

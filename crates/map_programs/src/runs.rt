@@ -1,7 +1,7 @@
 // Runs of calls, for every kind of item: what a caller knows of its map after several calls.
 ghost use Rattle.std.specs.Prelude.{◌≡◌, [], length};
 ghost use Rattle.id_ord_law.specs.Law.{ran};
-ghost use Rattle.id_ord_law.specs.Parts.{walk};
+ghost use Rattle.id_ord_law.specs.Parts.{Sound, walk};
 ghost use Rattle.id_ord_law.specs.Standing.{found, told};
 ghost use Rattle.id_ord_map.specs.View.{view};
 ghost use Rattle.map_programs.specs.Runs.{looks_up, shrinks_and_clears, adds, adds_by_entry, works_by_entry, puts_back_and_keeps, takes_out, every_call};
@@ -21,7 +21,9 @@ pub struct Supplies<T: IdOrdItem> {
 
 /// Looks for a key, and adds an item if it does not stand.
 pub fn look_up_or_add<T: IdOrdItem, Q: Comparable<T>>(map: &mut IdOrdMap<'_, T>, query: &Q, item: T)
+    requires sound { Sound T.IdOrdItem.order (view map.old) }
     ensures does { view map.new ≡ ran T.IdOrdItem.order (looks_up (Q.Comparable.meant query.now) (found T.IdOrdItem.order (Q.Comparable.meant query.now) (walk (view map.old))) item) (view map.old) }
+    ensures sound { Sound T.IdOrdItem.order (view map.new) }
 {
     let entry = map.entry(query);
     let _ = entry.or_insert(map, item);
@@ -29,7 +31,9 @@ pub fn look_up_or_add<T: IdOrdItem, Q: Comparable<T>>(map: &mut IdOrdMap<'_, T>,
 
 /// Shrinks a map and clears it.
 pub fn shrink_and_clear<T: IdOrdItem>(map: &mut IdOrdMap<'_, T>, scratch: &mut [ItemIndex])
+    requires sound { Sound T.IdOrdItem.order (view map.old) }
     ensures does { view map.new ≡ ran T.IdOrdItem.order (shrinks_and_clears (length scratch.old)) (view map.old) }
+    ensures sound { Sound T.IdOrdItem.order (view map.new) }
 {
     let _ = map.shrink_to_fit(scratch);
     map.clear();
@@ -37,7 +41,9 @@ pub fn shrink_and_clear<T: IdOrdItem>(map: &mut IdOrdMap<'_, T>, scratch: &mut [
 
 /// Adds an item, and puts another in the place of the one with its key.
 pub fn add<T: IdOrdItem>(map: &mut IdOrdMap<'_, T>, item: T, other: T)
+    requires sound { Sound T.IdOrdItem.order (view map.old) }
     ensures does { view map.new ≡ ran T.IdOrdItem.order (adds item other) (view map.old) }
+    ensures sound { Sound T.IdOrdItem.order (view map.new) }
 {
     let _ = map.insert_unique(item);
     let _ = map.insert_overwrite(other);
@@ -50,7 +56,9 @@ pub fn add_by_entry<T: IdOrdItem>(
     item: T,
     other: T,
 )
+    requires sound { Sound T.IdOrdItem.order (view map.old) }
     ensures does { view map.new ≡ ran T.IdOrdItem.order (adds_by_entry item other) (view map.old) }
+    ensures sound { Sound T.IdOrdItem.order (view map.new) }
 {
     let (first, second) = entries;
     let _ = first.insert(map, item);
@@ -63,7 +71,9 @@ pub fn work_by_entry<T: IdOrdItem>(
     entries: (OccupiedEntry<T>, OccupiedEntry<T>),
     item: T,
 )
+    requires sound { Sound T.IdOrdItem.order (view map.old) }
     ensures does { view map.new ≡ ran T.IdOrdItem.order (works_by_entry entries.0 entries.1 item) (view map.old) }
+    ensures sound { Sound T.IdOrdItem.order (view map.new) }
 {
     let (first, second) = entries;
     let _ = first.insert(map, item);
@@ -77,7 +87,9 @@ pub fn put_back_and_keep<T: IdOrdItem, R: KeepRule<T>>(
     item: RefMut<T>,
     rule: &mut R,
 )
+    requires sound { Sound T.IdOrdItem.order (view map.old) }
     ensures does { view map.new ≡ ran T.IdOrdItem.order (puts_back_and_keeps item (told R.KeepRule.verdict R.KeepRule.changed R.KeepRule.next rule.old)) (view map.old) }
+    ensures sound { Sound T.IdOrdItem.order (view map.new) }
 {
     let _ = item.put_back(map);
     let _ = map.retain(rule);
@@ -85,7 +97,9 @@ pub fn put_back_and_keep<T: IdOrdItem, R: KeepRule<T>>(
 
 /// Takes out the item with a key, and the first and the last of those that are left.
 pub fn take_out<T: IdOrdItem, Q: Comparable<T>>(map: &mut IdOrdMap<'_, T>, query: &Q)
+    requires sound { Sound T.IdOrdItem.order (view map.old) }
     ensures does { view map.new ≡ ran T.IdOrdItem.order (takes_out (Q.Comparable.meant query.now)) (view map.old) }
+    ensures sound { Sound T.IdOrdItem.order (view map.new) }
 {
     let _ = map.remove(query);
     let _ = map.pop_first();
@@ -100,7 +114,9 @@ pub fn make_every_call<T: IdOrdItem, Q: Comparable<T>, R: KeepRule<T>>(
     supplies: Supplies<T>,
     rule: &mut R,
 )
+    requires sound { Sound T.IdOrdItem.order (view map.old) }
     ensures does { view map.new ≡ ran T.IdOrdItem.order (every_call (Q.Comparable.meant query.now) (found T.IdOrdItem.order (Q.Comparable.meant query.now) (walk (view map.old))) (length scratch.old) supplies (told R.KeepRule.verdict R.KeepRule.changed R.KeepRule.next rule.old)) (view map.old) }
+    ensures sound { Sound T.IdOrdItem.order (view map.new) }
 {
     let Supplies {
         items: (one, two, three, four),

@@ -11,4 +11,4 @@ returns g c =
     let rule = told g.R.KeepRule.verdict g.R.KeepRule.changed g.R.KeepRule.next c.args.rule.now in
     let calls : Option g.row.T.Denot → List (Call g.row.T.Denot) = λ held. every_call k held (length c.args.scratch.now) c.args.supplies rule in
     let new = c.new-map.ensures in
-    record { walks = walks_from_new g.T.IdOrdItem.order new.law c.args.slots.now c.args.table.now k calls new.after new.begins c.make_every_call.ensures.does }
+    record { walks = walks_from_new g.T.IdOrdItem.order new.law c.args.slots.now c.args.table.now k calls new.after new.begins c.make_every_call.ensures.does; sound = c.make_every_call.ensures.sound }

@@ -8,4 +8,4 @@ pub returns : goal.returns
 returns g c =
     let new = c.new-map.ensures in
     let reached = one_added g.T.IdOrdItem.order c.args.item new.after new.begins c.requires.room c.insert_unique.ensures.does in
-    record { walks = new.law.walks (capacity (view c.new-map.result)) (view c.insert_unique.new.self) _ reached }
+    record { walks = new.law.walks (capacity (view c.new-map.result)) (view c.insert_unique.new.self) _ reached; sound = c.insert_unique.ensures.sound }

@@ -16,4 +16,4 @@ returns g c =
     let run4 = c.add_by_entry.ensures.does ∙ ap (run (adds_by_entry items.2 items.3)) run3 in
     let run5 = c.work_by_entry.ensures.does ∙ ap (run (works_by_entry occupied.0 occupied.1 items.0)) run4 in
     let run6 = c.put_back_and_keep.ensures.does ∙ ap (run (puts_back_and_keeps c.args.supplies.taken rule)) run5 in
-    record { does = c.take_out.ensures.does ∙ ap (run (takes_out (g.Q.Comparable.meant c.args.query.now))) run6 }
+    record { does = c.take_out.ensures.does ∙ ap (run (takes_out (g.Q.Comparable.meant c.args.query.now))) run6; sound = c.take_out.ensures.sound }

@@ -1,8 +1,7 @@
 use Rattle.std.proofs.Common.{sym}
 use Rattle.id_ord_law.proofs.Performing.{past_end}
 use Rattle.id_ord_map.specs.View.{view}
-use Rattle.id_ord_map.proofs.Held.{map_sound}
 use Rattle.id_ord_map.proofs.map.IdOrdMap.iter.Goals as goal
 
 pub returns-then-place-self : goal.returns-then-place-self
-returns-then-place-self g c = sym (past_end g.met.T.IdOrdItem.lawful (view c.args.self.now) (map_sound g.met.T.IdOrdItem.lawful c.args.self.now) c.args.place c.if-place-self.true)
+returns-then-place-self g c = sym (past_end g.met.T.IdOrdItem.lawful (view c.args.self.now) c.requires.sound c.args.place c.if-place-self.true)

@@ -1,6 +1,6 @@
 use Rattle.std.proofs.Common.{◌≡◌, ◌-◌, ◌≤◌, drop}
 use Rattle.id_ord_law.proofs.Ruling.{onward}
-use Rattle.id_ord_law.specs.Parts.{walk}
+use Rattle.id_ord_law.specs.Parts.{walk, Sound}
 use Rattle.id_ord_map.specs.Retain.{rule_after}
 use Rattle.id_ord_map.specs.View.{view, SameMemory}
 use Rattle.id_ord_map.proofs.map.IdOrdMap.retain.Given as goal
@@ -9,7 +9,7 @@ use Rattle.id_ord_map.proofs.map.IdOrdMap.retain.Given as goal
 abbrev pub invariant-loop-at : goal.invariant-loop-at
 invariant-loop-at g l =
     let order = g.T.IdOrdItem.order in let rule = g.R.KeepRule in
-    (l.at ≤ l.self.items.len)
+    Sound order (view l.self) × (l.at ≤ l.self.items.len)
     × (onward order rule.verdict rule.changed rule.next l.rule l.at (view l.self)
     ≡ onward order rule.verdict rule.changed rule.next l.initial.rule 0 (view l.initial.self))
     × (rule_after order rule.verdict rule.changed rule.next l.rule (drop l.at (walk (view l.self)))
