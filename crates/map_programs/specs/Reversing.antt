@@ -1,7 +1,7 @@
 -- Items in the reverse order of their keys.
 --     bare x                 the item itself
---     reversed order         the order of such items, which is lawful if theirs is
---     same_reversed equal    whether two of them agree in every field, which is faithful if theirs is
+--     reversed order         the order of such items; by reversed_lawful it is lawful if theirs is
+--     same_reversed equal    whether two of them agree in every field; by reversed_faithful it is faithful if theirs is
 use Rattle.std.specs.Prelude.{Bool}
 use Rattle.std.specs.declared.cmp.Ordering.{Ordering}
 use Rattle.std.proofs.Common.{ap, sym}

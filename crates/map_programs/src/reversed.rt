@@ -45,7 +45,7 @@ impl<T: IdOrdItem> IdOrdItem for Reversed<T> {
 /// A map whose walk goes from the greatest key down.
 #[derive(Drop)]
 pub struct Descending<'a, T: IdOrdItem> {
-    map: IdOrdMap<'a, Reversed<T>>,
+    pub map: IdOrdMap<'a, Reversed<T>>,
 }
 
 impl<'a, T: IdOrdItem> Descending<'a, T> {
