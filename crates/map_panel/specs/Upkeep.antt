@@ -51,17 +51,18 @@ module _ {T : Type 0} where
       let p' = offered numbers.used numbers.len numbers.free_head p in
       (told ≡ result_map_both Adopted Fault (adopt_answer numbers.len (map_fault order p' count))) × (q ≡ adopted order p' count p)
 
-  abbrev pub Shrinks : (T → T → Ordering) → Option ℕ → Board T → Result IndexRemap CompactRefusal → Board T → Type 0
+module _ {T : Type 0} {g : _} where
+  abbrev pub Shrinks : (T → T → Ordering) → Option ℕ → Board T g → Result IndexRemap CompactRefusal → Board T g → Type 0
   Shrinks order places board r board' = Meets order (Call.shrink_to_fit (places_within places board.scratch.now)) (view board.map) (shrunk r) (view board'.map)
 
-  abbrev pub Saves : Board T → ItemSet → Board T → Type 0
+  abbrev pub Saves : Board T g → ItemSet → Board T g → Type 0
   Saves board numbers board' = (numbers ≡ board.map.items) × (board'.saved ≡ numbers) × (view board'.map ≡ view board.map)
 
-  abbrev pub saved_after : Upkeep → Board T → ItemSet
+  abbrev pub saved_after : Upkeep → Board T g → ItemSet
   saved_after Save board = board.map.items
   saved_after upkeep board = board.saved
 
-  abbrev pub KeepsUp : (T → T → Ordering) → Upkeep → Board T → Result Kempt (Refusal T) → Board T → Type 0
+  abbrev pub KeepsUp : (T → T → Ordering) → Upkeep → Board T g → Result Kempt (Refusal T) → Board T g → Type 0
   KeepsUp order (Shrink places) board (Ok (Shrunk remap)) board' = Shrinks order places board (Ok remap) board'
   KeepsUp order (Shrink places) board (Err (NotShrunk refusal)) board' = Shrinks order places board (Err refusal) board'
   KeepsUp order (Remap slot) board told board' =

@@ -1,5 +1,5 @@
 // A board: a map of one kind of item, with what the panel remembers of it from line to line.
-ghost use Rattle.id_ord_law.specs.Parts.{Sound};
+ghost use Rattle.id_ord_law.specs.Parts.{Sound, parts};
 ghost use Rattle.id_ord_map.specs.View.{view};
 
 use crate::handling::Hand;
@@ -8,7 +8,9 @@ use id_ord_item::IdOrdItem;
 use id_ord_map::IdOrdMap;
 use item_set::{IndexRemap, ItemIndex, ItemSet};
 
-/// A board of one kind of item.
+/// A board of one kind of item. None can hold a map that is not sound.
+// A call of the map asks for the proof that it is sound, and the field says only that there is one; so the methods
+// that make such calls ask for it too.
 #[derive(Drop)]
 pub struct Board<'m, T: IdOrdItem> {
     pub map: IdOrdMap<'m, T>,
@@ -18,6 +20,7 @@ pub struct Board<'m, T: IdOrdItem> {
     /// What the last shrinking did to the slot numbers, and the scratch that it filled.
     pub remap: IndexRemap,
     pub scratch: &'m mut [ItemIndex],
+    pub ghost sound: { ∥ Sound T.IdOrdItem.order (parts map.slots.now map.table.now map.items) ∥₁ },
 }
 
 impl<'m, T: IdOrdItem> Board<'m, T> {
