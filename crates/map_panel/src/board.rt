@@ -8,9 +8,9 @@ use id_ord_item::IdOrdItem;
 use id_ord_map::IdOrdMap;
 use item_set::{IndexRemap, ItemIndex, ItemSet};
 
-/// A board of one kind of item. None can hold a map that is not sound.
-// A call of the map asks for the proof that it is sound, and the field says only that there is one; so the methods
-// that make such calls ask for it too.
+/// A board of one kind of item. No board can hold a map that is not sound.
+// A call of the map asks for a proof that it is sound. The field `sound` says only that there is one, and to get it
+// from there takes a lemma; so the methods that make such calls ask for it, too.
 #[derive(Drop)]
 pub struct Board<'m, T: IdOrdItem> {
     pub map: IdOrdMap<'m, T>,
