@@ -10,6 +10,7 @@
 --                                       what is told where this is asked of the memory, and the map after it
 --     saved_after upkeep board          the numbers that are remembered then
 --     remap_after told remap            the remap that is remembered then: the one told, or else the one before
+-- A `Board T g` is a board of items of T; g are the ghost members of their kind, of which the board's field `sound` speaks.
 use Rattle.std.specs.Prelude.{◌≡◌, ℕ, min, List, length, Some, None, Ok, Err, Option, Result}
 use Rattle.std.specs.Option.{unwrap_or}
 use Rattle.std.specs.Result.{result_map_both}

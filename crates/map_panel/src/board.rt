@@ -1,5 +1,5 @@
 // A board: a map of one kind of item, with what the panel remembers of it from line to line.
-ghost use Rattle.id_ord_law.specs.Parts.{Sound, parts};
+ghost use Rattle.id_ord_law.specs.Parts.{Sound};
 ghost use Rattle.id_ord_map.specs.View.{view};
 
 use crate::handling::Hand;
@@ -9,8 +9,8 @@ use id_ord_map::IdOrdMap;
 use item_set::{IndexRemap, ItemIndex, ItemSet};
 
 /// A board of one kind of item. No board can hold a map that is not sound.
-// A call of the map asks for a proof that it is sound. The field `sound` says only that there is one, and to get it
-// from there takes a lemma; so the methods that make such calls ask for it, too.
+// The field `sound` is proved of each board that is made or changed. It says that there is a proof and not which, and
+// a call of the map asks for the proof itself; so the methods ask for that, too, and none opens the field.
 #[derive(Drop)]
 pub struct Board<'m, T: IdOrdItem> {
     pub map: IdOrdMap<'m, T>,
@@ -20,7 +20,7 @@ pub struct Board<'m, T: IdOrdItem> {
     /// What the last shrinking did to the slot numbers, and the scratch that it filled.
     pub remap: IndexRemap,
     pub scratch: &'m mut [ItemIndex],
-    pub ghost sound: { ∥ Sound T.IdOrdItem.order (parts map.slots.now map.table.now map.items) ∥₁ },
+    pub ghost sound: { ∥ Sound T.IdOrdItem.order (view map) ∥₁ },
 }
 
 impl<'m, T: IdOrdItem> Board<'m, T> {
